@@ -1,0 +1,12 @@
+//! What a work-item of a kernel asks for, and what a launch of work-items does: its turns, its interleavings, races,
+//! tame launches, and the bytes that a launch leaves.
+//!
+//! Read first `acts` for the vocabulary, then `specs/Machine.antt` for how an item's next action is defined, and
+//! `specs/Launches.antt` and `specs/Tame.antt` for launches.
+#![tactic(auto)]
+
+pub mod acts;
+pub mod code;
+
+pub use acts::{Action, Asked, Bound, BoundList, Place, Point, Range, TurnList};
+pub use code::ItemCode;

@@ -1,0 +1,11 @@
+//! Values that every layer of the simulator speaks of: positions in a text, element types, address spaces, 32-bit
+//! words with RISC-V's arithmetic, lane masks, and little-endian fields in bytes.
+//!
+//! Read first `types` for the vocabulary, then `specs/Values.antt` for what each operation computes.
+#![tactic(auto)]
+
+pub mod lists;
+pub mod types;
+
+pub use lists::{KindList, ListOf, SizeList, Text, WordList};
+pub use types::{Alu, Elem, Memory, ParamKind, Pos, Size, Space};
