@@ -1,0 +1,4 @@
+pub mod FirstTree
+pub mod FirstText
+pub mod First
+pub mod FirstValues
