@@ -1,4 +1,6 @@
 pub mod FirstTree
+pub mod Names
 pub mod FirstText
+pub mod Words
 pub mod First
 pub mod FirstValues
