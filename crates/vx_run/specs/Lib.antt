@@ -4,3 +4,4 @@ pub mod FirstText
 pub mod Words
 pub mod First
 pub mod FirstValues
+pub mod FirstMemory
