@@ -1,3 +1,4 @@
+use std::alloc::{AllocError, AllocFailed};
 use std::fmt;
 
 /// Memory ran out. What a call leaves then is said at that call.
@@ -109,7 +110,43 @@ pub enum ParamKind {
     },
 }
 
+impl From<AllocError> for Memory {
+    ghost use Rattle.std.specs.Prelude.{◌≡◌};
+
+    ghost from_gives = { λ _ _. Unit {0} };
+
+    fn from(_fault: AllocError) -> Memory {
+        Memory
+    }
+}
+
+impl<T: Drop> From<AllocFailed<T>> for Memory {
+    ghost from_gives = { λ _ _. Unit {0} };
+
+    fn from(_fault: AllocFailed<T>) -> Memory {
+        Memory
+    }
+}
+
+impl fmt::Display for Pos {
+    ghost use Rattle.std.specs.Prelude.{Some};
+    ghost use Rattle.vx_base.specs.Texts.{pos_text};
+
+    ghost output = { λ pos. Some (pos_text pos) };
+
+    fn fmt<W: fmt::Write>(&self, f: &mut fmt::Formatter<W>) -> fmt::Result {
+        let line = self.line;
+        let col = self.col;
+        write!(f, "{line}:{col}")
+    }
+}
+
 impl fmt::Display for Elem {
+    ghost use Rattle.std.specs.Prelude.{Some};
+    ghost use Rattle.vx_base.specs.Texts.{elem_text};
+
+    ghost output = { λ elem. Some (elem_text elem) };
+
     fn fmt<W: fmt::Write>(&self, f: &mut fmt::Formatter<W>) -> fmt::Result {
         f.write_str(match self {
             Elem::Char => "char",

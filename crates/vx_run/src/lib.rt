@@ -6,3 +6,5 @@
 
 pub mod first;
 pub mod words;
+pub mod report;
+pub mod lines;
