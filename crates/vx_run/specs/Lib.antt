@@ -6,3 +6,5 @@ pub mod Lines
 pub mod First
 pub mod FirstValues
 pub mod FirstMemory
+pub mod Output
+pub mod Answers
