@@ -34,8 +34,8 @@ bit_of_unset n k unset =
     ]
 
 -- a mask of so many ones has the bits below
-pub ones-bits : (mask lanes k : ℕ) → mask + 1 ≡ 2 ^ lanes → IsBitSet mask k ↔ (k < lanes)
-ones-bits mask lanes k ones =
+pub bits_of_ones : (mask lanes k : ℕ) → mask + 1 ≡ 2 ^ lanes → IsBitSet mask k ↔ (k < lanes)
+bits_of_ones mask lanes k ones =
     let form : mask ≡ 2 ^ lanes - 1 = omega arith in (
       λ is_set. elim (cases_lt k lanes) [
         | inl below ↦ below

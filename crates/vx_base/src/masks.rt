@@ -4,6 +4,7 @@ ghost use Rattle.std.specs.Int.{IsBitSet};
 ghost use Rattle.vx_base.specs.Masks.{IsLeastBit};
 
 /// The set of the lanes below `lanes`, of which there are 1 to 32.
+#[tactic(auto, using(crate::proofs::MaskLaws::ones_of_shift, crate::proofs::MaskLaws::bits_of_ones))]
 pub fn lanes_mask(lanes: u32) -> u32
     requires some { 1 ≤ lanes }
     requires word { lanes ≤ 32 }
