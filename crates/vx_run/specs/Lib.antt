@@ -6,5 +6,6 @@ pub mod Lines
 pub mod First
 pub mod FirstValues
 pub mod FirstMemory
+pub mod Delivery
 pub mod Output
 pub mod Answers

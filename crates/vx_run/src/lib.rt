@@ -6,5 +6,7 @@
 
 pub mod first;
 pub mod words;
+pub mod deliver;
+pub mod output;
 pub mod report;
 pub mod lines;
