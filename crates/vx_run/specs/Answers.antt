@@ -21,7 +21,7 @@ use Rattle.vx_run.specs.Output.{output_text}
 
 -- What the words and the files of a call come to: it is refused for a cause, or it prints a text.
 pub data Outcome : Type 0 where
-  Refused : Cause → Outcome
+  Refuses : Cause → Outcome
   Prints : List ℕ → Outcome
 
 -- The files have this under a name, where they tell what they have.
@@ -50,7 +50,7 @@ bytes_in contents b byte = slice_index (slice_index_or contents b []) byte
 -- The arguments and the run: as many arguments as parameters, and then the launch leaves bytes that are printed.
 pub data FromArguments (c : RunWords) (k : Form) (contents : List (List ℕ)) : Outcome → Type 0 where
   WrongArguments : length c.arguments ≢ length k.parameters →
-    FromArguments c k contents (Refused (cause.Launch 0 (launch.Arguments (length c.arguments) (length k.parameters))))
+    FromArguments c k contents (Refuses (cause.Launch 0 (launch.Arguments (length c.arguments) (length k.parameters))))
   Runs : length c.arguments ≡ length k.parameters → (left : ℕ → ℕ → ℕ) →
     LaunchLeaves (launch_of k c.arguments c.items (length c.buffers)) (bytes_in contents) left →
     FromArguments c k contents (Prints (output_text c left))
@@ -60,26 +60,26 @@ pub data FromArguments (c : RunWords) (k : Form) (contents : List (List ℕ)) : 
 pub data FromBuffers (held : Option (List Entry)) (c : RunWords) (k : Form) : ℕ → List BufWord → List (List ℕ) → Outcome → Type 0 where
   NoBuffers : (index : ℕ) (contents : List (List ℕ)) (o : Outcome) → FromArguments c k contents o → FromBuffers held c k index [] contents o
   NoBufferFile : (index : ℕ) (contents : List (List ℕ)) (name path : List ℕ) (more : List BufWord) → Holds held path None →
-    FromBuffers held c k index (record { name = name; from = File path } ∷ more) contents (Refused (cause.Missing path))
+    FromBuffers held c k index (record { name = name; from = File path } ∷ more) contents (Refuses (cause.Missing path))
   WrongLength : (index : ℕ) (contents : List (List ℕ)) (b : BufWord) (more : List BufWord) (bytes : List ℕ) → Brings held b.from bytes →
     length bytes ≢ 4 * c.items →
-    FromBuffers held c k index (b ∷ more) contents (Refused (cause.Buffer index (buffer.Length (counted_bytes b.from bytes (4 * c.items)) 4)))
+    FromBuffers held c k index (b ∷ more) contents (Refuses (cause.Buffer index (buffer.Length (counted_bytes b.from bytes (4 * c.items)) 4)))
   NextBuffer : (index : ℕ) (contents : List (List ℕ)) (b : BufWord) (more : List BufWord) (bytes : List ℕ) (o : Outcome) → Brings held b.from bytes →
     length bytes ≡ 4 * c.items → FromBuffers held c k (suc index) more (contents ++ bytes ∷ []) o → FromBuffers held c k index (b ∷ more) contents o
 
 -- the entry: the kernel has its name
 pub data FromEntry (held : Option (List Entry)) (c : RunWords) (k : Form) : Outcome → Type 0 where
-  NoEntry : k.name ≢ c.entry → FromEntry held c k (Refused (cause.Launch 0 launch.NoEntry))
+  NoEntry : k.name ≢ c.entry → FromEntry held c k (Refuses (cause.Launch 0 launch.NoEntry))
   HasEntry : (o : Outcome) → k.name ≡ c.entry → FromBuffers held c k 0 c.buffers [] o → FromEntry held c k o
 
 -- the source: these bytes are the text of a kernel
 pub data FromSource (held : Option (List Entry)) (c : RunWords) (bytes : List ℕ) : Outcome → Type 0 where
-  NoKernel : ((k : Form) → IsKernelFile bytes k → ⊥) → FromSource held c bytes (Refused (cause.Source first_place source.Subset))
+  NoKernel : ((k : Form) → IsKernelFile bytes k → ⊥) → FromSource held c bytes (Refuses (cause.Source first_place source.Subset))
   HasKernel : (k : Form) (o : Outcome) → IsKernelFile bytes k → FromEntry held c k o → FromSource held c bytes o
 
 -- the kernel's file: it is there
 pub data FromFile (held : Option (List Entry)) (c : RunWords) : Outcome → Type 0 where
-  NoFile : Holds held c.file None → FromFile held c (Refused (cause.Missing c.file))
+  NoFile : Holds held c.file None → FromFile held c (Refuses (cause.Missing c.file))
   HasFile : (bytes : List ℕ) (o : Outcome) → Holds held c.file (Some bytes) → FromSource held c bytes o → FromFile held c o
 
 -- the first word is the command
@@ -89,6 +89,6 @@ IsCommand words = slice_get words 0 ≡ Some (codes "run")
 -- What a call with these words over these files comes to, where no read fails: first by its words, then by the kernel's
 -- file, its text, the entry, the buffers in order, the arguments, and the run.
 pub data FromWords (held : Option (List Entry)) (words : List (List ℕ)) : Outcome → Type 0 where
-  NoCommand : (¬ (IsCommand words)) → FromWords held words (Refused (cause.Usage 0 usage.Command))
-  NoForm : IsCommand words → ((c : RunWords) → IsRun words c → ⊥) → FromWords held words (Refused (cause.Usage 0 usage.Form))
+  NoCommand : (¬ (IsCommand words)) → FromWords held words (Refuses (cause.Usage 0 usage.Command))
+  NoForm : IsCommand words → ((c : RunWords) → IsRun words c → ⊥) → FromWords held words (Refuses (cause.Usage 0 usage.Form))
   HasForm : (c : RunWords) (o : Outcome) → IsRun words c → FromFile held c o → FromWords held words o

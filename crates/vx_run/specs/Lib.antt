@@ -9,3 +9,4 @@ pub mod FirstMemory
 pub mod Delivery
 pub mod Output
 pub mod Answers
+pub mod Stages

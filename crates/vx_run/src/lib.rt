@@ -6,6 +6,8 @@
 
 pub mod first;
 pub mod words;
+pub mod reading;
+pub mod stages;
 pub mod deliver;
 pub mod output;
 pub mod report;
