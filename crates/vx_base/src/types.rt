@@ -1,3 +1,7 @@
+ghost use Rattle.std.specs.Prelude.{Some};
+ghost use Rattle.vx_base.specs.Texts.{pos_text};
+ghost use Rattle.vx_base.specs.Values.{elem_name};
+
 use std::alloc::{AllocError, AllocFailed};
 use std::fmt;
 
@@ -111,8 +115,6 @@ pub enum ParamKind {
 }
 
 impl From<AllocError> for Memory {
-    ghost use Rattle.std.specs.Prelude.{◌≡◌};
-
     ghost from_gives = { λ _ _. Unit {0} };
 
     fn from(_fault: AllocError) -> Memory {
@@ -129,9 +131,6 @@ impl<T: Drop> From<AllocFailed<T>> for Memory {
 }
 
 impl fmt::Display for Pos {
-    ghost use Rattle.std.specs.Prelude.{Some};
-    ghost use Rattle.vx_base.specs.Texts.{pos_text};
-
     ghost output = { λ pos. Some (pos_text pos) };
 
     fn fmt<W: fmt::Write>(&self, f: &mut fmt::Formatter<W>) -> fmt::Result {
@@ -142,10 +141,7 @@ impl fmt::Display for Pos {
 }
 
 impl fmt::Display for Elem {
-    ghost use Rattle.std.specs.Prelude.{Some};
-    ghost use Rattle.vx_base.specs.Texts.{elem_text};
-
-    ghost output = { λ elem. Some (elem_text elem) };
+    ghost output = { λ elem. Some (elem_name elem) };
 
     fn fmt<W: fmt::Write>(&self, f: &mut fmt::Formatter<W>) -> fmt::Result {
         f.write_str(match self {
