@@ -1,2 +1,3 @@
 pub mod DeliveryLaws
 pub mod OutputLaws
+pub mod ReadingLaws

@@ -1,7 +1,7 @@
 //! Files that are read for a call.
 
 ghost use Rattle.std.specs.Prelude.{◌≡◌, ◌≤◌, length, IfOk, IfErr};
-ghost use Rattle.vx_run.specs.Stages.{AreBytes, IsMissingOf, ReadsFront, StageFaults, StageMisses, StopsReading};
+ghost use Rattle.vx_run.specs.Stages.{IsMissingOf, ReadsFront, StageFaults, StageMisses, StopsReading};
 
 use std::alloc::Global;
 
@@ -38,7 +38,6 @@ pub fn read_file<F: Files>(
 ) -> Result<Vec<u8>, Stop>
     ensures held { F.held files.new ≡ F.held files.old }
     ensures front { IfOk result (λ bytes. ReadsFront (F.held files.old) name.now most bytes.items) }
-    ensures bytes { IfOk result (λ bytes. AreBytes bytes.items) }
     ensures stop { IfErr result (StopsReading (F.held files.old) name.now) }
     ensures faults { StageFaults result (F.faults files.old) (F.faults files.new) }
     ensures misses { StageMisses result (F.misses files.old) (F.misses files.new) }
