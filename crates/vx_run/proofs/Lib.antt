@@ -1,3 +1,4 @@
 pub mod DeliveryLaws
 pub mod OutputLaws
 pub mod ReadingLaws
+pub mod LoadingLaws
