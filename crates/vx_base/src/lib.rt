@@ -4,8 +4,10 @@
 //! Read first `types` for the vocabulary, then `specs/Values.antt` for what each operation computes.
 #![tactic(auto)]
 
+pub mod bytes;
 pub mod lists;
 pub mod types;
 
+pub use bytes::{get_le, put_le};
 pub use lists::{KindList, ListOf, SizeList, Text, WordList};
 pub use types::{Alu, Elem, Memory, ParamKind, Pos, Size, Space};
