@@ -1,6 +1,6 @@
 -- Laws of launches: which byte a store changes, and what stands at each item of a family with one new value.
-use Rattle.std.proofs.Common.{◌≡◌, ◌≢◌, ℕ, ◌+◌, ◌-◌, ◌<◌, ◌≤◌, ◌⊎◌, true, false, refl, inl, inr, eq-eqb, ne_eqb, le-leb, lt-ltb, le-ltb}
-use Rattle.std.proofs.lemmas.Bool.{and_from, and_left, and_right, lt-leb, cond-true, cond-false}
+use Rattle.std.proofs.Common.{◌≡◌, ◌≢◌, ℕ, ◌+◌, ◌-◌, ◌<◌, ◌≤◌, ◌⊎◌, true, false, ◌&&◌, nat_eq, nat_le, nat_lt, refl, inl, inr, eq-eqb, ne_eqb, le-leb, lt-ltb, le-ltb, eqb-true, leb-true, ltb-true}
+use Rattle.std.proofs.lemmas.Bool.{and_from, and_parts, and_left, and_right, lt-leb, cond-true, cond-false, cond_both}
 use Rattle.vx_base.specs.Bytes.{byte_of}
 use Rattle.item_acts.specs.declared.acts.Place.{Place}
 use Rattle.item_acts.specs.declared.acts.Place.TheVariants.{Global}
@@ -41,3 +41,15 @@ put_at_same i v f = cond-true _ _ _ (eq-eqb i i refl)
 -- each other number keeps its value
 pub put_at_other : {A : Type 0} (i : ℕ) (v : A) (f : ℕ → A) (j : ℕ) → j ≢ i → put_at i v f j ≡ f j
 put_at_other i v f j other = cond-false _ _ _ (ne_eqb j i other)
+
+-- what holds of the new value and of each old one holds everywhere
+pub put_at_each : {A : Type 0} (P : A → Type 0) (i : ℕ) (v : A) (f : ℕ → A) → P v → ((j : ℕ) → P (f j)) → (j : ℕ) → P (put_at i v f j)
+put_at_each P i v f new old j = cond_both (nat_eq j i) v (f j) P (λ _. new) (λ _. old j)
+
+-- a covered byte lies in the field's buffer, from its first byte on and before its end
+pub covers_within : (buffer at n buffer' byte : ℕ) → covers (Global buffer at) n (Global buffer' byte) ≡ true
+    → (buffer ≡ buffer') × (at ≤ byte) × (byte < at + n)
+covers_within buffer at n buffer' byte h =
+  let parts = and_parts (nat_eq buffer buffer') (nat_le at byte && nat_lt byte (at + n)) h in
+  let bounds = and_parts (nat_le at byte) (nat_lt byte (at + n)) parts.1 in
+  (eqb-true buffer buffer' parts.0, leb-true at byte bounds.0, ltb-true byte (at + n) bounds.1)

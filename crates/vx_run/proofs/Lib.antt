@@ -1,0 +1,5 @@
+pub mod FirstLaunchItem
+pub mod FirstLaunchBytes
+pub mod FirstLaunchState
+pub mod FirstLaunchTame
+pub mod FirstLaunchLeaves
