@@ -1,8 +1,8 @@
 -- The words of each item's own elements in the bytes of the buffers, and a count of what is left to do.
-use Rattle.std.proofs.Common.{◌≡◌, ◌≢◌, ℕ, zero, suc, ◌+◌, ◌-◌, ◌*◌, ◌%◌, ◌^◌, ◌<◌, ◌≤◌, ◌⊎◌, Bool, true, false, nat_eq, refl, ap, sym, subst, ◌∙◌, inl, inr, arith, eqb-true}
-use Rattle.std.proofs.lemmas.Bool.{cond_both, cases_eq, cases_lt, eqb-false}
+use Rattle.std.proofs.Common.{◌≡◌, ◌≢◌, ℕ, zero, suc, ◌+◌, ◌-◌, ◌*◌, ◌^◌, ◌<◌, ◌≤◌, ◌⊎◌, refl, ap, sym, subst, ◌∙◌, inl, inr, arith}
+use Rattle.std.proofs.lemmas.Bool.{cond_both, cases_eq, cases_lt}
 use Rattle.std.proofs.Math.Path.{fun_ext}
-use Rattle.vx_base.specs.Bytes.{byte_of, number_of}
+use Rattle.vx_base.specs.Bytes.{byte_of}
 use Rattle.vx_base.proofs.NumberLaws.{byte_of-lt, number_of-same, number_of-word, number_of-whole}
 use Rattle.item_acts.specs.declared.acts.Place.{Place}
 use Rattle.item_acts.specs.declared.acts.Place.TheVariants.{Global}
@@ -58,8 +58,8 @@ module _ (bytes : Place → ℕ) (item buffer v : ℕ) where
   word : v < 2 ^ 32 → own_words stored item buffer ≡ v
   word small =
       number_of-same _ (byte_of v) 4 (λ k below.
-        let place : 4 * item + k - 4 * item ≡ k = omega arith in
-        with_field_at_in bytes buffer (4 * item) 4 v (4 * item + k) (omega arith) (omega arith) ∙ ap (byte_of v) place)
+      let place : 4 * item + k - 4 * item ≡ k = omega arith in
+      with_field_at_in bytes buffer (4 * item) 4 v (4 * item + k) (omega arith) (omega arith) ∙ ap (byte_of v) place)
       ∙ number_of-whole v 4 small
 
   -- the item's own words change in that buffer alone
@@ -78,7 +78,7 @@ total f (suc n) = f n + total f n
 -- equal terms have equal sums
 total_same : (f g : ℕ → ℕ) (n : ℕ) → ((j : ℕ) → j < n → g j ≡ f j) → total g n ≡ total f n
 total_same f g zero same = refl
-total_same f g (suc n) same = 
+total_same f g (suc n) same =
     let here : g n ≡ f n = same n (omega arith) in
     let rest : total g n ≡ total f n = total_same f g n (λ j below. same j (omega arith)) in
     omega arith

@@ -1,16 +1,16 @@
 -- What one work-item of a kernel of assignments asks for, from its own words on to those that it leaves.
-use Rattle.std.proofs.Common.{◌≡◌, ℕ, zero, suc, ◌+◌, ◌-◌, ◌*◌, ◌%◌, ◌^◌, ◌<◌, ◌≤◌, List, [], ◌∷◌, ◌++◌, length, refl, ap, sym, subst, ◌∙◌, arith}
+use Rattle.std.proofs.Common.{◌≡◌, ℕ, suc, ◌+◌, ◌*◌, ◌%◌, ◌^◌, ◌<◌, List, [], ◌∷◌, length, refl, ap, sym, subst, ◌∙◌, arith}
 use Rattle.std.proofs.Math.Nat.{mod-eq_of_lt}
 use Rattle.std.specs.List.{AllByRecursion}
 use Rattle.vx_base.specs.declared.types.Size.TheVariants.{Four}
 use Rattle.item_acts.specs.declared.acts.Place.TheVariants.{Global}
 use Rattle.item_acts.specs.declared.acts.Action.{Action}
-use Rattle.item_acts.specs.declared.acts.Action.TheVariants.{Load, Store, Barrier, Fault, End}
+use Rattle.item_acts.specs.declared.acts.Action.TheVariants.{Load, Store, End}
 use Rattle.item_acts.specs.declared.acts.Asked.TheVariants.{Act}
-use Rattle.item_acts.specs.Machine.{Step, Go, Ask, Stop, asked_behind, asked}
+use Rattle.item_acts.specs.Machine.{Go, asked_behind, asked}
 use Rattle.item_acts.specs.Launches.{put_at}
-use Rattle.item_acts.proofs.Machine.{Leads, leads_none, leads_go, leads_answer, asked_once}
-use Rattle.item_acts.proofs.Launches.{put_at_same, put_at_other, put_at_each}
+use Rattle.item_acts.proofs.Machine.{Leads, leads_none, leads_go, leads_answer}
+use Rattle.item_acts.proofs.Launches.{put_at_each}
 use Rattle.vx_run.specs.declared.first.tree.Operator.{Operator}
 use Rattle.vx_run.specs.declared.first.tree.Operator.TheVariants.{Add, Subtract, Multiply}
 use Rattle.vx_run.specs.FirstTree.{Tree, Literal, OwnId, OwnElement, Grouped, Applied, Assigns}
@@ -105,7 +105,7 @@ module _ (arrays : ℕ → ℕ) (item buffers : ℕ) where
           steps = 1;
           to = to;
           leads = leads_answer (item_step arrays item) 0 (record { tasks = LoadFrom p ∷ ts; values = i ∷ vs }) to (Load (Global b (4 * i)) Four)
-            (λ v. record { tasks = ts; values = v % 2 ^ 32 ∷ vs }) (words b) [] refl (leads_none (item_step arrays item) to);
+              (λ v. record { tasks = ts; values = v % 2 ^ 32 ∷ vs }) (words b) [] refl (leads_none (item_step arrays item) to);
           makes = subst (λ (x : ℕ). Makes ts (x ∷ vs) words final) (sym whole) h;
           fewer = omega arith;
         }) (omega arith);
@@ -124,7 +124,7 @@ module _ (arrays : ℕ → ℕ) (item buffers : ℕ) where
           steps = 1;
           to = to;
           leads = leads_answer (item_step arrays item) 0 (record { tasks = StoreTo p ∷ ts; values = v ∷ i ∷ vs }) to (Store (Global b (4 * i)) Four v)
-            (λ _. to) 0 [] refl (leads_none (item_step arrays item) to);
+              (λ _. to) 0 [] refl (leads_none (item_step arrays item) to);
           makes = h;
           fewer = omega arith;
         }) (omega arith);
@@ -181,6 +181,9 @@ module _ (arrays : ℕ → ℕ) (item buffers : ℕ) where
       let value = value_of (λ p. words (arrays p)) item a.value in
       let word : value < 2 ^ 32 = value-word parameters (λ p. words (arrays p)) (λ p. small (arrays p)) few a.value all.0.1 in
       let later = put_at (arrays a.parameter) value words in
-      makes_sum parameters known a.value all.0.1 (StoreTo a.parameter ∷ body_tasks more) (item ∷ []) words (words_after arrays item more later)
-      (refl, known a.parameter all.0.0, word,
-        makes_body parameters known few more all.1 later (put_at_each (λ x. x < 2 ^ 32) (arrays a.parameter) value words word small))
+      makes_sum parameters known a.value all.0.1 (StoreTo a.parameter ∷ body_tasks more) (item ∷ []) words (words_after arrays item more later) (
+        refl,
+        known a.parameter all.0.0,
+        word,
+        makes_body parameters known few more all.1 later (put_at_each (λ x. x < 2 ^ 32) (arrays a.parameter) value words word small),
+      )

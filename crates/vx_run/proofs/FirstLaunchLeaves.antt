@@ -1,21 +1,20 @@
 -- What each launch of a kernel of assignments leaves.
-use Rattle.std.proofs.Common.{◌≡◌, ◌≢◌, ℕ, zero, suc, ◌+◌, ◌*◌, ◌/◌, ◌%◌, ◌<◌, ◌≤◌, ◌⊎◌, nat_lt, List, [], ◌∷◌, length, replicate, get_or, refl, ap, sym, subst, ◌∙◌, inl, inr, arith, ltb-true, ltb-false}
+use Rattle.std.proofs.Common.{◌≡◌, ◌≢◌, ℕ, zero, suc, ◌+◌, ◌*◌, ◌/◌, ◌%◌, ◌<◌, ◌≤◌, ◌⊎◌, nat_lt, List, [], ◌∷◌, length, refl, ap, sym, subst, ◌∙◌, inl, inr, arith, ltb-true, ltb-false}
 use Rattle.std.proofs.lemmas.Bool.{cond_both, cases_lt}
 use Rattle.std.proofs.lemmas.List.{get_or-replicate}
 use Rattle.vx_base.specs.Bytes.{byte_of}
 use Rattle.vx_base.proofs.NumberLaws.{byte_of-number_of}
 use Rattle.item_acts.specs.declared.acts.Place.TheVariants.{Global}
 use Rattle.item_acts.specs.declared.acts.Action.{Action}
-use Rattle.item_acts.specs.declared.acts.Asked.TheVariants.{Act}
-use Rattle.item_acts.specs.Launches.{Launch, ItemAsks, State, Standing, Going, Ended, Faulted, start, Turn, Does, after, IsTurn, MayDo, run, IsComplete}
+use Rattle.item_acts.specs.Launches.{State, Standing, Going, Ended, Faulted, start, Turn, Does, after, IsTurn, MayDo, run, IsComplete}
 use Rattle.item_acts.specs.Tame.{IsFirst, RunsFirst, LaunchLeaves}
 use Rattle.item_acts.proofs.Machine.{asks_along}
 use Rattle.vx_run.specs.FirstTree.{Form}
 use Rattle.vx_run.specs.First.{Task, Item, item_step, item_start, array_of, launch_of}
-use Rattle.vx_run.specs.FirstValues.{words_after, words_at, bytes_left, IsLaunchable}
+use Rattle.vx_run.specs.FirstValues.{bytes_left, IsLaunchable}
 use Rattle.vx_run.proofs.FirstLaunchItem.{Makes, NextOf, Loads, Stores, Ends, next_of}
 use Rattle.vx_run.proofs.FirstLaunchBytes.{own_words, own_words-word}
-use Rattle.vx_run.proofs.FirstLaunchState.{Stands, final, ItemHolds, Holds, Kept, left, kept_next}
+use Rattle.vx_run.proofs.FirstLaunchState.{Stands, final, Holds, Kept, left, kept_next}
 use Rattle.vx_run.proofs.FirstLaunchTame.{holds_start}
 
 -- an item goes on or not
@@ -81,7 +80,7 @@ module _ (k : Form) (arguments : List ℕ) (items buffers : ℕ) (given : ℕ �
       let m = h.at item in
       let step = item_step (array_of arguments) item in
       let next = next_of (array_of arguments) item buffers m.tasks m.values (own_words s.bytes item) (final k arguments items buffers given item)
-        (λ b. own_words-word s.bytes item b h.small) held.makes in
+      (λ b. own_words-word s.bytes item b h.small) held.makes in
       record {
         item = item;
         action = next.action;
@@ -166,7 +165,7 @@ module _ (k : Form) (arguments : List ℕ) (items buffers : ℕ) (given : ℕ �
         first = end.first;
         complete = end.complete;
         bytes = λ buffer byte.
-          cond_both (nat_lt byte (4 * items)) _ _ (λ x. x ≡ (run (launch_of k arguments items buffers) (start given) end.turns).bytes (Global buffer byte))
-          (λ e. byte_within (run (launch_of k arguments items buffers) (start given) end.turns) end.holds end.complete buffer byte (ltb-true byte (4 * items) e))
-          (λ e. sym (end.holds.outside buffer byte (ltb-false byte (4 * items) e)));
+            cond_both (nat_lt byte (4 * items)) _ _ (λ x. x ≡ (run (launch_of k arguments items buffers) (start given) end.turns).bytes (Global buffer byte))
+            (λ e. byte_within (run (launch_of k arguments items buffers) (start given) end.turns) end.holds end.complete buffer byte (ltb-true byte (4 * items) e))
+            (λ e. sym (end.holds.outside buffer byte (ltb-false byte (4 * items) e)));
       }

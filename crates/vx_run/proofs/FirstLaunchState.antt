@@ -1,25 +1,21 @@
 -- What holds after any turns of a launch of a kernel of assignments.
-use Rattle.std.proofs.Common.{◌≡◌, ◌≢◌, ℕ, zero, suc, ◌+◌, ◌-◌, ◌*◌, ◌/◌, ◌%◌, ◌^◌, ◌<◌, ◌≤◌, ◌⊎◌, Bool, true, false, nat_eq, if◌then◌else◌, List, [], ◌∷◌, ◌++◌, length, get_or, replicate, refl, ap, ap₂, sym, subst, ◌∙◌, inl, inr, arith, eqb-true}
-use Rattle.std.proofs.Math.Nat.{mul-div_cancel}
+use Rattle.std.proofs.Common.{◌≡◌, ◌≢◌, ℕ, suc, ◌+◌, ◌*◌, ◌<◌, ◌≤◌, Bool, true, false, nat_eq, if◌then◌else◌, List, [], ◌∷◌, ◌++◌, length, refl, ap, ap₂, sym, subst, ◌∙◌, inr, arith, eqb-true}
 use Rattle.std.proofs.lemmas.Bool.{eqb-false}
-use Rattle.vx_base.specs.declared.types.Pos.{Pos}
 use Rattle.vx_base.specs.declared.types.Size.TheVariants.{Four}
-use Rattle.item_acts.specs.declared.acts.Place.{Place}
 use Rattle.item_acts.specs.declared.acts.Place.TheVariants.{Global}
-use Rattle.item_acts.specs.declared.acts.Point.{Point}
 use Rattle.item_acts.specs.declared.acts.Action.{Action}
-use Rattle.item_acts.specs.declared.acts.Action.TheVariants.{Load, Store, Barrier, Fault, End}
+use Rattle.item_acts.specs.declared.acts.Action.TheVariants.{Load, Store, End}
 use Rattle.item_acts.specs.declared.acts.Asked.TheVariants.{Act}
 use Rattle.item_acts.specs.Machine.{asked}
-use Rattle.item_acts.specs.Launches.{Launch, ItemAsks, State, Standing, Going, Ended, Faulted, start, field_at, put_at, bytes_after, answers_to, standing_after, Turn, Does, Passes, after, MayDo, Waits, MayPass, May, Allowed, run}
-use Rattle.item_acts.specs.Tame.{Access, accesses_of, log_of}
-use Rattle.item_acts.proofs.Machine.{Leads, leads_none, leads_on, asked_once, asks_along, asks_there}
+use Rattle.item_acts.specs.Launches.{ItemAsks, State, Standing, Going, Ended, Faulted, put_at, bytes_after, answers_to, standing_after, Turn, Does, after}
+use Rattle.item_acts.specs.Tame.{Access, accesses_of}
+use Rattle.item_acts.proofs.Machine.{Leads, leads_on, asked_once, asks_there}
 use Rattle.item_acts.proofs.Launches.{put_at_same, put_at_other}
 use Rattle.vx_run.specs.FirstTree.{Form}
 use Rattle.vx_run.specs.First.{Task, body_tasks, Item, item_step, item_start, array_of, launch_of}
 use Rattle.vx_run.specs.FirstValues.{words_after, words_at}
-use Rattle.vx_run.proofs.FirstLaunchItem.{Makes, GoesOn, NextOf, Loads, Stores, Ends, Next, next_of}
-use Rattle.vx_run.proofs.FirstLaunchBytes.{buffers_of, own_words, AreBytes, own_words-word, stored, stored_out, stored-lt, own_words-other, own_words-own, total, total_less}
+use Rattle.vx_run.proofs.FirstLaunchItem.{Makes, GoesOn, NextOf, Loads, Stores, Ends, next_of}
+use Rattle.vx_run.proofs.FirstLaunchBytes.{own_words, AreBytes, own_words-word, stored, stored_out, stored-lt, own_words-other, own_words-own, total, total_less}
 
 -- an item goes on, or has ended with no task left
 abbrev pub Stands : Standing → List Task → Type 0
@@ -123,19 +119,19 @@ module _ (k : Form) (arguments : List ℕ) (items buffers : ℕ) (given : ℕ �
     holds = record {
       at = put_at item g.to h.at;
       each = put_at_items (λ j m answers standing. ItemHolds j m answers standing (own_words (bytes_after s.bytes a) j)) items item
-        g.to (s.answers item ++ answers_to s.bytes a) (standing_after a) h.at s.answers s.standing
-        (item_goes item (h.at item) (s.answers item) (answers_to s.bytes a) (s.standing item) (standing_after a) (own_words s.bytes item) (own_words (bytes_after s.bytes a) item)
+          g.to (s.answers item ++ answers_to s.bytes a) (standing_after a) h.at s.answers s.standing
+          (item_goes item (h.at item) (s.answers item) (answers_to s.bytes a) (s.standing item) (standing_after a) (own_words s.bytes item) (own_words (bytes_after s.bytes a) item)
           (h.each item below) g stands)
-        (λ j differ lower. subst (λ (w : ℕ → ℕ). ItemHolds j (h.at j) (s.answers j) (s.standing j) w) (sym (others j differ)) (h.each j lower));
+          (λ j differ lower. subst (λ (w : ℕ → ℕ). ItemHolds j (h.at j) (s.answers j) (s.standing j) w) (sym (others j differ)) (h.each j lower));
       small = small;
       outside = λ buffer byte far. outside buffer byte far ∙ h.outside buffer byte far;
     };
     less = total_less (λ j. left_of (s.standing j) (h.at j).tasks) (λ j. left_of (put_at item (standing_after a) s.standing j) (put_at item g.to h.at j).tasks) items item below
-      (let now : left_of (put_at item (standing_after a) s.standing item) (put_at item g.to h.at item).tasks ≡ left_of (standing_after a) g.to.tasks
+        (let now : left_of (put_at item (standing_after a) s.standing item) (put_at item g.to h.at item).tasks ≡ left_of (standing_after a) g.to.tasks
         = ap₂ (λ (st : Standing) (m : Item). left_of st m.tasks) (put_at_same item (standing_after a) s.standing) (put_at_same item g.to h.at) in
-       let before : left_of (s.standing item) (h.at item).tasks ≡ suc (length (h.at item).tasks) = ap (λ st. left_of st (h.at item).tasks) going in
-       omega arith)
-      (λ j differ. ap₂ (λ (st : Standing) (m : Item). left_of st m.tasks) (put_at_other item (standing_after a) s.standing j differ) (put_at_other item g.to h.at j differ));
+        let before : left_of (s.standing item) (h.at item).tasks ≡ suc (length (h.at item).tasks) = ap (λ st. left_of st (h.at item).tasks) going in
+        omega arith)
+        (λ j differ. ap₂ (λ (st : Standing) (m : Item). left_of st m.tasks) (put_at_other item (standing_after a) s.standing j differ) (put_at_other item g.to h.at j differ));
     own = own;
   }
 

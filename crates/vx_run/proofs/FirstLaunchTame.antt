@@ -1,5 +1,5 @@
 -- Each launch of a kernel of assignments is tame and has no fault.
-use Rattle.std.proofs.Common.{◌≡◌, ◌≢◌, ℕ, zero, suc, ◌+◌, ◌-◌, ◌*◌, ◌/◌, ◌^◌, ◌<◌, ◌≤◌, ◌⊎◌, true, false, List, [], ◌∷◌, ◌++◌, length, slice_get, Some, IsTrue, refl, ap, sym, subst, subst₂, ◌∙◌, inl, inr, arith}
+use Rattle.std.proofs.Common.{◌≡◌, ℕ, zero, suc, ◌+◌, ◌*◌, ◌<◌, ◌≤◌, true, List, [], ◌∷◌, ◌++◌, length, slice_get, Some, refl, subst, subst₂, arith}
 use Rattle.std.proofs.Math.Nat.{mul-div_cancel}
 use Rattle.std.proofs.lemmas.Bool.{false≢true}
 use Rattle.vx_base.specs.declared.types.Pos.{Pos}
@@ -10,9 +10,9 @@ use Rattle.item_acts.specs.declared.acts.Action.{Action}
 use Rattle.item_acts.specs.declared.acts.Action.TheVariants.{Load, Store, Barrier, Fault, End}
 use Rattle.item_acts.specs.declared.acts.Asked.TheVariants.{Act}
 use Rattle.item_acts.specs.Machine.{asked}
-use Rattle.item_acts.specs.Launches.{Launch, ItemAsks, State, Standing, Going, Ended, start, covers, Turn, Does, Passes, after, MayDo, Waits, MayPass, May, Allowed, run}
-use Rattle.item_acts.specs.Tame.{Access, accesses_of, log_of, IsRace, HasRace, NeverPasses, IsApart, IsTameWithin, IsTame, HasFault}
-use Rattle.item_acts.proofs.Machine.{Leads, leads_none, settles_le, asks_along}
+use Rattle.item_acts.specs.Launches.{ItemAsks, State, start, covers, Turn, Does, Passes, after, MayPass, May, Allowed, run}
+use Rattle.item_acts.specs.Tame.{Access, accesses_of, log_of, IsRace, IsTame, HasFault}
+use Rattle.item_acts.proofs.Machine.{leads_none, settles_le, asks_along}
 use Rattle.item_acts.proofs.Launches.{covers_within}
 use Rattle.vx_run.specs.FirstTree.{Form}
 use Rattle.vx_run.specs.First.{body_tasks, Item, item_step, item_start, array_of, launch_of}
@@ -39,8 +39,8 @@ own_apart b b' i j (Local group array byte) h h' = absurd (false≢true h)
 own_no_race : (x y : Access) → IsOwn x → IsOwn y → IsRace x y → ⊥
 own_no_race x y (b, place, bytes) (b', place', bytes') race =
     race.others (own_apart b b' x.item y.item race.byte
-      (subst₂ (λ (p : Place) (n : ℕ). covers p n race.byte ≡ true) place bytes race.shared.0)
-      (subst₂ (λ (p : Place) (n : ℕ). covers p n race.byte ≡ true) place' bytes' race.shared.1))
+    (subst₂ (λ (p : Place) (n : ℕ). covers p n race.byte ≡ true) place bytes race.shared.0)
+    (subst₂ (λ (p : Place) (n : ℕ). covers p n race.byte ≡ true) place' bytes' race.shared.1))
 
 -- an action that is no barrier and no fault
 abbrev IsPlain : Action → Type 0
@@ -103,9 +103,9 @@ module _ (k : Form) (arguments : List ℕ) (items buffers : ℕ) (given : ℕ �
       leads = leads_none (item_step (array_of arguments) item) (item_start k);
       few = omega arith;
       makes = makes_body (array_of arguments) item buffers (length k.parameters)
-        (λ p known. launchable.within p 0 (let enough = launchable.enough in omega arith))
-        (let few = launchable.items_few in omega arith) k.assignments launchable.assignments (words_at given item)
-        (λ b. own_words-word (start given).bytes item b small);
+          (λ p known. launchable.within p 0 (let enough = launchable.enough in omega arith))
+          (let few = launchable.items_few in omega arith) k.assignments launchable.assignments (words_at given item)
+          (λ b. own_words-word (start given).bytes item b small);
       stands = tt;
     };
     small = small;
@@ -119,9 +119,11 @@ module _ (k : Form) (arguments : List ℕ) (items buffers : ℕ) (given : ℕ �
       let held = h.each item below in
       let m = h.at item in
       let step = item_step (array_of arguments) item in
-      let next = next_of (array_of arguments) item buffers m.tasks m.values (own_words s.bytes item) _ (λ b. own_words-word s.bytes item b h.small) held.makes in
-      (next.action, settles_le step (held.steps + length m.tasks) (length (body_tasks k.assignments)) held.few (item_start k) (s.answers item) next.action
-        (asks_along step held.steps (item_start k) m (s.answers item) held.leads (length m.tasks) next.action next.soon))
+      let next = next_of (array_of arguments) item buffers m.tasks m.values (own_words s.bytes item) _ (λ b. own_words-word s.bytes item b h.small) held.makes in (
+        next.action,
+        settles_le step (held.steps + length m.tasks) (length (body_tasks k.assignments)) held.few (item_start k) (s.answers item) next.action
+            (asks_along step held.steps (item_start k) m (s.answers item) held.leads (length m.tasks) next.action next.soon),
+      )
 
   -- every launch of a kernel of assignments is tame
   pub tame : IsLaunchable k arguments items buffers → ((buffer byte : ℕ) → given buffer byte < 256) → IsTame (launch_of k arguments items buffers) given
@@ -129,18 +131,20 @@ module _ (k : Form) (arguments : List ℕ) (items buffers : ℕ) (given : ℕ �
       let l = launch_of k arguments items buffers in
       let h = holds_start launchable small in
       let turns_left = left k arguments items buffers given (start given).standing h.at in
-      let tasks = length (body_tasks k.assignments) in
-      (turns_left + tasks, record {
-        few = λ turns allowed faults. let less = (kept_turns (start given) h turns allowed).less in omega arith;
-        no_race = λ turns allowed faults race.
-          let own = (kept_turns (start given) h turns allowed).own in
-          own_no_race race.first race.second (own_at _ own race.one race.first race.first_is) (own_at _ own race.other race.second race.second_is) race.race;
-        meets = λ turns allowed faults apart.
-          asks_plain (run l (start given) turns) (kept_turns (start given) h turns allowed).holds apart.waiting apart.exist.0 (Barrier apart.point) apart.waits.asks;
-        soon = λ turns allowed faults item below going.
-          let asks = asks_soon (run l (start given) turns) (kept_turns (start given) h turns allowed).holds item below in
-          (asks.0, settles_le (item_step (array_of arguments) item) tasks (turns_left + tasks) (omega arith) (item_start k) ((run l (start given) turns).answers item) asks.0 asks.1);
-      })
+      let tasks = length (body_tasks k.assignments) in (
+        turns_left + tasks,
+        record {
+          few = λ turns allowed faults. let less = (kept_turns (start given) h turns allowed).less in omega arith;
+          no_race = λ turns allowed faults race.
+              let own = (kept_turns (start given) h turns allowed).own in
+              own_no_race race.first race.second (own_at _ own race.one race.first race.first_is) (own_at _ own race.other race.second race.second_is) race.race;
+          meets = λ turns allowed faults apart.
+              asks_plain (run l (start given) turns) (kept_turns (start given) h turns allowed).holds apart.waiting apart.exist.0 (Barrier apart.point) apart.waits.asks;
+          soon = λ turns allowed faults item below going.
+              let asks = asks_soon (run l (start given) turns) (kept_turns (start given) h turns allowed).holds item below in
+              (asks.0, settles_le (item_step (array_of arguments) item) tasks (turns_left + tasks) (omega arith) (item_start k) ((run l (start given) turns).answers item) asks.0 asks.1);
+        },
+      )
 
   -- no fault comes last in what keeps the state
   no_fault_from : (s : State) → Holds k arguments items buffers given s → (turns : List Turn) (item : ℕ) (pos : Pos)

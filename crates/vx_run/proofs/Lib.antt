@@ -3,3 +3,4 @@ pub mod FirstLaunchBytes
 pub mod FirstLaunchState
 pub mod FirstLaunchTame
 pub mod FirstLaunchLeaves
+pub mod FirstLaunchExamples
