@@ -18,7 +18,8 @@ may : {l : Launch} {s : State} {item : ℕ} {a : Action} → item < l.items → 
 may exists going asks turn = record { exists = exists; going = going; asks = record { steps = 0; asked = asks }; turn = turn }
 
 -- three items that stand like this at their ends are all items
-three_ended : (standing : ℕ → Standing) → standing 0 ≡ Ended → standing 1 ≡ Ended → standing 2 ≡ Ended → (item : ℕ) → item < 3 → standing item ≡ Ended
+three_ended : (standing : ℕ → Standing) → standing 0 ≡ Ended → standing 1 ≡ Ended → standing 2 ≡ Ended → (item : ℕ) → item < 3
+    → standing item ≡ Ended
 three_ended s a b c zero h = a
 three_ended s a b c (suc zero) h = b
 three_ended s a b c (suc (suc zero)) h = c
@@ -51,6 +52,7 @@ past_one : {l : Launch} {s : State} (a : Action) → s.standing 0 ≡ Ended → 
 past_one b ended zero a h = let going = h.going in absurd (cc)
 past_one b ended (suc item) a h = omega arith
 
+-- or with two smaller ones
 past_two : {l : Launch} {s : State} (a : Action) → s.standing 0 ≡ Ended → s.standing 1 ≡ Ended → IsFirst l s (Does 2 a)
 past_two b ended ended' zero a h = let going = h.going in absurd (cc)
 past_two b ended ended' (suc zero) a h = let going = h.going in absurd (cc)
@@ -60,6 +62,7 @@ past_two b ended ended' (suc (suc item)) a h = omega arith
 own_turns : List Turn
 own_turns = Does 0 (stores 0 7) ∷ Does 0 End ∷ Does 1 (stores 1 8) ∷ Does 1 End ∷ Does 2 (stores 2 9) ∷ Does 2 End ∷ []
 
+-- each is the first that may come
 own_first : RunsFirst own_bytes (start fives) own_turns
 unfolding own_turns
 own_first = (
@@ -84,7 +87,9 @@ own_first = (
   ),
 )
 
-own_bytes_left : (buffer byte : ℕ) → seven_eight_nine buffer byte ≡ (run own_bytes (start fives) own_turns).bytes (Global buffer byte)
+-- and behind them the bytes are these
+own_bytes_left : (buffer byte : ℕ)
+    → seven_eight_nine buffer byte ≡ (run own_bytes (start fives) own_turns).bytes (Global buffer byte)
 unfolding own_turns
 own_bytes_left zero zero = refl
 own_bytes_left zero (suc zero) = refl
@@ -224,7 +229,8 @@ faults_not (suc zero) pos h asks = let e = asks.asked in cc
 faults_not (suc (suc item)) pos h asks = omega arith
 
 -- an item that waits will pass where the other still goes on
-passes_still : (other : ℕ) (point : Point) → other < 2 → point ≡ barrier_at 1 → NeverPasses (one_waits 2) (start fives) other point → ⊥
+passes_still : (other : ℕ) (point : Point) → other < 2 → point ≡ barrier_at 1
+    → NeverPasses (one_waits 2) (start fives) other point → ⊥
 passes_still other point h e (inl ended) = cc
 passes_still other point h e (inr (inl (point', differ, waits))) = let e' = waits_there other point' h waits in differ (cc)
 passes_still other point h e (inr (inr (going, (pos, asks)))) = faults_not other pos h asks
@@ -234,7 +240,8 @@ pub waiting_is_not_apart : IsApart (one_waits 2) (start fives) → ⊥
 waiting_is_not_apart h = passes_still h.other h.point h.exist.1 (waits_there h.waiting h.point h.exist.0 h.waits) h.never
 
 -- an item that stops at a fault stands there
-pub fault_stands : (l : Launch) (s : State) (item : ℕ) (pos : Pos) → (after l s (Does item (Fault pos))).standing item ≡ Faulted pos
+pub fault_stands : (l : Launch) (s : State) (item : ℕ) (pos : Pos)
+    → (after l s (Does item (Fault pos))).standing item ≡ Faulted pos
 fault_stands l s item pos = put_at_same item (Faulted pos) s.standing
 
 -- which bytes a field has
@@ -245,9 +252,11 @@ pub covers_bounds : (covers (Global 0 4) 4 (Global 0 3) ≡ false) × (covers (G
 covers_bounds = (refl, refl, refl, refl, refl, refl, refl, refl, refl)
 
 -- a field is inside up to the last byte, and the launch has no local array
-pub inside_bounds : IsInside own_bytes (Global 0 3) 1 × (IsInside own_bytes (Global 0 3) 2 → ⊥) × (IsInside own_bytes (Global 1 0) 1 → ⊥) × (IsInside own_bytes (Local 0 0 0) 1 → ⊥)
+pub inside_bounds : IsInside own_bytes (Global 0 3) 1 × (IsInside own_bytes (Global 0 3) 2 → ⊥)
+    × (IsInside own_bytes (Global 1 0) 1 → ⊥) × (IsInside own_bytes (Local 0 0 0) 1 → ⊥)
 inside_bounds = (lit≤ tt, λ h. omega arith, λ h. omega arith, λ h. omega (arith, h.1))
 
 -- a fault may be the last turn, and no earlier one
-pub fault_last : (pos : Pos) → FaultsAtMostLast (Does 0 End ∷ Does 1 (Fault pos) ∷ []) × (FaultsAtMostLast (Does 1 (Fault pos) ∷ Does 0 End ∷ []) → ⊥)
+pub fault_last : (pos : Pos)
+    → FaultsAtMostLast (Does 0 End ∷ Does 1 (Fault pos) ∷ []) × (FaultsAtMostLast (Does 1 (Fault pos) ∷ Does 0 End ∷ []) → ⊥)
 fault_last pos = ((λ h. h, tt), λ h. h.0 tt)

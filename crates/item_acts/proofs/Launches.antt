@@ -43,13 +43,14 @@ pub put_at_other : {A : Type 0} (i : ℕ) (v : A) (f : ℕ → A) (j : ℕ) → 
 put_at_other i v f j other = cond-false _ _ _ (ne_eqb j i other)
 
 -- what holds of the new value and of each old one holds everywhere
-pub put_at_each : {A : Type 0} (P : A → Type 0) (i : ℕ) (v : A) (f : ℕ → A) → P v → ((j : ℕ) → P (f j)) → (j : ℕ) → P (put_at i v f j)
+pub put_at_each : {A : Type 0} (P : A → Type 0) (i : ℕ) (v : A) (f : ℕ → A) → P v → ((j : ℕ) → P (f j)) → (j : ℕ)
+    → P (put_at i v f j)
 put_at_each P i v f new old j = cond_both (nat_eq j i) v (f j) P (λ _. new) (λ _. old j)
 
 -- a covered byte lies in the field's buffer, from its first byte on and before its end
 pub covers_within : (buffer at n buffer' byte : ℕ) → covers (Global buffer at) n (Global buffer' byte) ≡ true
     → (buffer ≡ buffer') × (at ≤ byte) × (byte < at + n)
 covers_within buffer at n buffer' byte h =
-  let parts = and_parts (nat_eq buffer buffer') (nat_le at byte && nat_lt byte (at + n)) h in
-  let bounds = and_parts (nat_le at byte) (nat_lt byte (at + n)) parts.1 in
-  (eqb-true buffer buffer' parts.0, leb-true at byte bounds.0, ltb-true byte (at + n) bounds.1)
+    let parts = and_parts (nat_eq buffer buffer') (nat_le at byte && nat_lt byte (at + n)) h in
+    let bounds = and_parts (nat_le at byte) (nat_lt byte (at + n)) parts.1 in
+    (eqb-true buffer buffer' parts.0, leb-true at byte bounds.0, ltb-true byte (at + n) bounds.1)

@@ -31,10 +31,11 @@ in_turn items local actions = record {
 abbrev pub fives : ℕ → ℕ → ℕ
 fives buffer byte = 5
 
--- to load, and to store a number in, a byte of the first buffer
+-- to load a byte of the first buffer
 abbrev pub loads : ℕ → Action
 loads byte = Load (Global 0 byte) One
 
+-- to store a number in one
 abbrev pub stores : ℕ → ℕ → Action
 stores byte value = Store (Global 0 byte) One value
 

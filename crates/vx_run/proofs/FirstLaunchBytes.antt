@@ -32,7 +32,8 @@ module _ (bytes : Place → ℕ) (item buffer v : ℕ) where
   stored = with_field_at bytes (Global buffer (4 * item)) 4 v
 
   -- no byte outside of that element changes
-  pub stored_out : (other byte : ℕ) → (byte < 4 * item) ⊎ (4 * item + 4 ≤ byte) → stored (Global other byte) ≡ bytes (Global other byte)
+  pub stored_out : (other byte : ℕ) → (byte < 4 * item) ⊎ (4 * item + 4 ≤ byte)
+      → stored (Global other byte) ≡ bytes (Global other byte)
   stored_out other byte out = elim (cases_eq buffer other) [
     | inl same ↦ subst (λ (b : ℕ). stored (Global b byte) ≡ bytes (Global b byte)) same (with_field_at_out bytes buffer (4 * item) 4 v byte out)
     | inr differ ↦ with_field_at_other bytes buffer other (4 * item) 4 v byte differ
@@ -65,7 +66,9 @@ module _ (bytes : Place → ℕ) (item buffer v : ℕ) where
   -- the item's own words change in that buffer alone
   pub own_words-own : v < 2 ^ 32 → own_words stored item ≡ put_at buffer v (own_words bytes item)
   own_words-own small = fun_ext (λ other. elim (cases_eq other buffer) [
-    | inl same ↦ subst (λ (b : ℕ). own_words stored item b ≡ put_at buffer v (own_words bytes item) b) (sym same) (word small ∙ sym (put_at_same buffer v (own_words bytes item)))
+    | inl same ↦
+        subst (λ (b : ℕ). own_words stored item b ≡ put_at buffer v (own_words bytes item) b) (sym same)
+        (word small ∙ sym (put_at_same buffer v (own_words bytes item)))
     | inr differ ↦ number_of-same _ _ 4 (λ k below. with_field_at_other bytes buffer other (4 * item) 4 v (4 * item + k) (λ e. differ (sym e)))
         ∙ sym (put_at_other buffer v (own_words bytes item) other differ)
   ])

@@ -49,7 +49,8 @@ abbrev twice : Form
 twice = record {
   name = codes "twice";
   parameters = codes "a" ∷ codes "b" ∷ [];
-  assignments = record { parameter = 1; value = Applied Add (OwnElement 0) (Literal 1) } ∷ record { parameter = 0; value = Applied Multiply (OwnElement 1) (Literal 2) } ∷ [];
+  assignments = record { parameter = 1; value = Applied Add (OwnElement 0) (Literal 1) }
+      ∷ record { parameter = 0; value = Applied Multiply (OwnElement 1) (Literal 2) } ∷ [];
 }
 
 -- each word is 5
@@ -57,6 +58,8 @@ abbrev fives : ℕ → ℕ → ℕ
 fives buffer byte = if nat_eq (byte % 4) 0 then 5 else 0
 
 -- with an array for each parameter, and with one array for both
-pub twice_words : (words_at (bytes_left (0 ∷ 1 ∷ []) 2 twice.assignments fives) 1 0 ≡ 12) × (words_at (bytes_left (0 ∷ 1 ∷ []) 2 twice.assignments fives) 1 1 ≡ 6)
-    × (words_at (bytes_left (0 ∷ 0 ∷ []) 2 twice.assignments fives) 1 0 ≡ 12) × (words_at (bytes_left (0 ∷ 0 ∷ []) 2 twice.assignments fives) 1 1 ≡ 5)
+pub twice_words : (words_at (bytes_left (0 ∷ 1 ∷ []) 2 twice.assignments fives) 1 0 ≡ 12)
+    × (words_at (bytes_left (0 ∷ 1 ∷ []) 2 twice.assignments fives) 1 1 ≡ 6)
+    × (words_at (bytes_left (0 ∷ 0 ∷ []) 2 twice.assignments fives) 1 0 ≡ 12)
+    × (words_at (bytes_left (0 ∷ 0 ∷ []) 2 twice.assignments fives) 1 1 ≡ 5)
 twice_words = (refl, refl, refl, refl)

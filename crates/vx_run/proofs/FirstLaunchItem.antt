@@ -50,7 +50,8 @@ module _ (arrays : ℕ → ℕ) (item buffers : ℕ) where
 
   -- What the item asks for: the word of its own element in a buffer, to put a word there, or its end.
   pub data NextOf (m : Item) (words final : ℕ → ℕ) : Action → Type 0 where
-    Loads : (b : ℕ) → b < buffers → (g : GoesOn m (words b ∷ []) words final) → 0 < g.steps → NextOf m words final (Load (Global b (4 * item)) Four)
+    Loads : (b : ℕ) → b < buffers → (g : GoesOn m (words b ∷ []) words final) → 0 < g.steps
+        → NextOf m words final (Load (Global b (4 * item)) Four)
     Stores : (b v : ℕ) → b < buffers → v < 2 ^ 32 → (g : GoesOn m (0 ∷ []) (put_at b v words) final) → 0 < g.steps
         → NextOf m words final (Store (Global b (4 * item)) Four v)
     Ends : (g : GoesOn m [] words final) → g.to.tasks ≡ [] → NextOf m words final End
@@ -62,7 +63,8 @@ module _ (arrays : ℕ → ℕ) (item buffers : ℕ) where
     pub next : NextOf m words final action
 
   -- an inner step leads where the state behind it leads
-  abbrev pub goes_on_go : (m m' : Item) (answers : List ℕ) (words final : ℕ → ℕ) → item_step arrays item m ≡ Go m' → suc (length m'.tasks) ≡ length m.tasks
+  abbrev pub goes_on_go : (m m' : Item) (answers : List ℕ) (words final : ℕ → ℕ) → item_step arrays item m ≡ Go m'
+      → suc (length m'.tasks) ≡ length m.tasks
       → GoesOn m' answers words final → GoesOn m answers words final
   goes_on_go m m' answers words final e shorter g = record {
     steps = suc g.steps;
@@ -92,7 +94,8 @@ module _ (arrays : ℕ → ℕ) (item buffers : ℕ) where
   }
 
   -- a task that loads asks for the word of the item's own element
-  next_load : (p : ℕ) (ts : List Task) (i : ℕ) (vs : List ℕ) (words final : ℕ → ℕ) → ((b : ℕ) → words b < 2 ^ 32) → i ≡ item → arrays p < buffers
+  next_load : (p : ℕ) (ts : List Task) (i : ℕ) (vs : List ℕ) (words final : ℕ → ℕ) → ((b : ℕ) → words b < 2 ^ 32) → i ≡ item
+      → arrays p < buffers
       → Makes ts (words (arrays p) ∷ vs) words final → Next (record { tasks = LoadFrom p ∷ ts; values = i ∷ vs }) words final
   next_load p ts i vs words final small own known h =
       let b = arrays p in
@@ -136,7 +139,13 @@ module _ (arrays : ℕ → ℕ) (item buffers : ℕ) where
   next_of [] vs words final small h = record {
     action = End;
     soon = refl;
-    next = Ends (record { steps = 0; to = record { tasks = []; values = vs }; leads = leads_none (item_step arrays item) (record { tasks = []; values = vs }); makes = h; fewer = refl }) refl;
+    next = Ends (record {
+      steps = 0;
+      to = record { tasks = []; values = vs };
+      leads = leads_none (item_step arrays item) (record { tasks = []; values = vs });
+      makes = h;
+      fewer = refl;
+    }) refl;
   }
   next_of (TakeNumber n ∷ ts) vs words final small h =
       next_go (TakeNumber n) ts vs (n ∷ vs) words final refl (next_of ts (n ∷ vs) words final small h)
@@ -164,7 +173,8 @@ module _ (arrays : ℕ → ℕ) (item buffers : ℕ) where
       (makes_sum parameters known r sum.1 (Operate op ∷ rest) (value_of (λ p. words (arrays p)) item l ∷ vs) words final h)
 
   -- the value of a sum is a word
-  value-word : (parameters : ℕ) (own : ℕ → ℕ) → ((p : ℕ) → own p < 2 ^ 32) → item < 2 ^ 32 → (t : Tree) → IsSumOf parameters t → value_of own item t < 2 ^ 32
+  value-word : (parameters : ℕ) (own : ℕ → ℕ) → ((p : ℕ) → own p < 2 ^ 32) → item < 2 ^ 32 → (t : Tree) → IsSumOf parameters t
+      → value_of own item t < 2 ^ 32
   value-word parameters own small few (Literal n) sum = omega (arith, sum)
   value-word parameters own small few OwnId sum = few
   value-word parameters own small few (OwnElement p) sum = small p
@@ -174,7 +184,8 @@ module _ (arrays : ℕ → ℕ) (item buffers : ℕ) where
 
   -- the assignments lead from any words to the words after them
   pub makes_body : (parameters : ℕ) → ((p : ℕ) → p < parameters → arrays p < buffers) → item < 2 ^ 32
-      → (assignments : List Assigns) → AllByRecursion (IsAssignmentOf parameters) assignments → (words : ℕ → ℕ) → ((b : ℕ) → words b < 2 ^ 32)
+      → (assignments : List Assigns) → AllByRecursion (IsAssignmentOf parameters) assignments → (words : ℕ → ℕ)
+      → ((b : ℕ) → words b < 2 ^ 32)
       → Makes (body_tasks assignments) [] words (words_after arrays item assignments words)
   makes_body parameters known few [] all words small = refl
   makes_body parameters known few (a ∷ more) all words small =

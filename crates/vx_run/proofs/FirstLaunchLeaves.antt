@@ -6,7 +6,7 @@ use Rattle.vx_base.specs.Bytes.{byte_of}
 use Rattle.vx_base.proofs.NumberLaws.{byte_of-number_of}
 use Rattle.item_acts.specs.declared.acts.Place.TheVariants.{Global}
 use Rattle.item_acts.specs.declared.acts.Action.{Action}
-use Rattle.item_acts.specs.Launches.{State, Standing, Going, Ended, Faulted, start, Turn, Does, after, IsTurn, MayDo, run, IsComplete}
+use Rattle.item_acts.specs.Launches.{Launch, State, Standing, Going, Ended, Faulted, start, Turn, Does, after, IsTurn, MayDo, run, IsComplete}
 use Rattle.item_acts.specs.Tame.{IsFirst, RunsFirst, LaunchLeaves}
 use Rattle.item_acts.proofs.Machine.{asks_along}
 use Rattle.vx_run.specs.FirstTree.{Form}
@@ -57,29 +57,40 @@ none_left Ended ts stands e = stands
 none_left (Faulted pos) ts stands e = absurd stands
 
 module _ (k : Form) (arguments : List ℕ) (items buffers : ℕ) (given : ℕ → ℕ → ℕ) where
+  -- the launch, and the buffer of each parameter
+  abbrev launch : Launch
+  launch = launch_of k arguments items buffers
+
+  abbrev arrays : ℕ → ℕ
+  arrays = array_of arguments
+
+  -- a state that some turns lead to
+  abbrev Sound : State → Type 0
+  Sound = Holds k arguments items buffers given
+
   -- what an item asks for is a turn of the launch
-  next_turn : (item : ℕ) → item < items → (m : Item) (words last : ℕ → ℕ) (a : Action) → NextOf (array_of arguments) item buffers m words last a
-      → IsTurn (launch_of k arguments items buffers) a
+  next_turn : (item : ℕ) → item < items → (m : Item) (words last : ℕ → ℕ) (a : Action) → NextOf arrays item buffers m words last a
+      → IsTurn launch a
   next_turn item below m words last a (Loads b known g some) = rw (get_or-replicate buffers b (4 * items) 0 known) (omega arith)
   next_turn item below m words last a (Stores b v known small g some) = rw (get_or-replicate buffers b (4 * items) 0 known) (omega arith)
   next_turn item below m words last a (Ends g none) = tt
 
   -- The first turn of a state in which some item goes on.
-  record FirstTurn (s : State) (h : Holds k arguments items buffers given s) : Type 0 where
+  record FirstTurn (s : State) (h : Sound s) : Type 0 where
     item : ℕ
     action : Action
-    may : MayDo (launch_of k arguments items buffers) s item action
-    first : IsFirst (launch_of k arguments items buffers) s (Does item action)
+    may : MayDo launch s item action
+    first : IsFirst launch s (Does item action)
     kept : Kept k arguments items buffers given s h (Does item action)
 
   -- it is what the least item that goes on asks for
-  first_turn : (s : State) (h : Holds k arguments items buffers given s) → Least s.standing items → FirstTurn s h
+  first_turn : (s : State) (h : Sound s) → Least s.standing items → FirstTurn s h
   first_turn s h found =
       let item = found.item in
       let held = h.each item found.below in
       let m = h.at item in
-      let step = item_step (array_of arguments) item in
-      let next = next_of (array_of arguments) item buffers m.tasks m.values (own_words s.bytes item) (final k arguments items buffers given item)
+      let step = item_step arrays item in
+      let next = next_of arrays item buffers m.tasks m.values (own_words s.bytes item) (final k arguments items buffers given item)
       (λ b. own_words-word s.bytes item b h.small) held.makes in
       record {
         item = item;
@@ -100,12 +111,12 @@ module _ (k : Form) (arguments : List ℕ) (items buffers : ℕ) (given : ℕ �
   -- The schedule by least item from a state to the end of every item.
   record Scheduled (s : State) : Type 0 where
     turns : List Turn
-    first : RunsFirst (launch_of k arguments items buffers) s turns
-    complete : IsComplete (launch_of k arguments items buffers) (run (launch_of k arguments items buffers) s turns)
-    holds : Holds k arguments items buffers given (run (launch_of k arguments items buffers) s turns)
+    first : RunsFirst launch s turns
+    complete : IsComplete launch (run launch s turns)
+    holds : Sound (run launch s turns)
 
   -- where no item goes on the schedule is at its end
-  schedule_end : (s : State) → Holds k arguments items buffers given s → ((item : ℕ) → item < items → s.standing item ≢ Going) → Scheduled s
+  schedule_end : (s : State) → Sound s → ((item : ℕ) → item < items → s.standing item ≢ Going) → Scheduled s
   schedule_end s h none = record {
     turns = [];
     first = tt;
@@ -114,7 +125,7 @@ module _ (k : Form) (arguments : List ℕ) (items buffers : ℕ) (given : ℕ �
   }
 
   -- there is one, however many turns are left
-  schedule : (n : ℕ) (s : State) (h : Holds k arguments items buffers given s) → left k arguments items buffers given s.standing h.at ≤ n → Scheduled s
+  schedule : (n : ℕ) (s : State) (h : Sound s) → left k arguments items buffers given s.standing h.at ≤ n → Scheduled s
   schedule zero s h few = elim (least_going s.standing items) [
     | inl found ↦ let less = (first_turn s h found).kept.less in absurd (omega arith)
     | inr none ↦ schedule_end s h none
@@ -123,7 +134,7 @@ module _ (k : Form) (arguments : List ℕ) (items buffers : ℕ) (given : ℕ �
     | inl found ↦
         let turn = first_turn s h found in
         let less = turn.kept.less in
-        let rest = schedule n (after (launch_of k arguments items buffers) s (Does turn.item turn.action)) turn.kept.holds (omega arith) in
+        let rest = schedule n (after launch s (Does turn.item turn.action)) turn.kept.holds (omega arith) in
         record {
           turns = Does turn.item turn.action ∷ rest.turns;
           first = (turn.may, turn.first, rest.first);
@@ -134,17 +145,18 @@ module _ (k : Form) (arguments : List ℕ) (items buffers : ℕ) (given : ℕ �
   ]
 
   -- an item that has ended has left its final words
-  ended_words : (s : State) (h : Holds k arguments items buffers given s) (item : ℕ) → item < items → s.standing item ≡ Ended
+  ended_words : (s : State) (h : Sound s) (item : ℕ) → item < items → s.standing item ≡ Ended
       → own_words s.bytes item ≡ final k arguments items buffers given item
   ended_words s h item below ended =
       let held = h.each item below in
       let m = h.at item in
       let none : m.tasks ≡ [] = none_left (s.standing item) m.tasks held.stands ended in
-      subst (λ (ts : List Task). Makes (array_of arguments) item buffers ts m.values (own_words s.bytes item) (final k arguments items buffers given item)) none held.makes
+      subst (λ (ts : List Task). Makes arrays item buffers ts m.values (own_words s.bytes item) (final k arguments items buffers given item)) none held.makes
 
   -- a byte of the items' elements is a byte of an item's final word
-  byte_within : (s : State) (h : Holds k arguments items buffers given s) → IsComplete (launch_of k arguments items buffers) s
-      → (buffer byte : ℕ) → byte < 4 * items → byte_of (final k arguments items buffers given (byte / 4) buffer) (byte % 4) ≡ s.bytes (Global buffer byte)
+  byte_within : (s : State) (h : Sound s) → IsComplete launch s
+      → (buffer byte : ℕ) → byte < 4 * items
+      → byte_of (final k arguments items buffers given (byte / 4) buffer) (byte % 4) ≡ s.bytes (Global buffer byte)
   byte_within s h complete buffer byte below =
       let item = byte / 4 in
       let exists : item < items = omega arith in
@@ -165,7 +177,7 @@ module _ (k : Form) (arguments : List ℕ) (items buffers : ℕ) (given : ℕ �
         first = end.first;
         complete = end.complete;
         bytes = λ buffer byte.
-            cond_both (nat_lt byte (4 * items)) _ _ (λ x. x ≡ (run (launch_of k arguments items buffers) (start given) end.turns).bytes (Global buffer byte))
-            (λ e. byte_within (run (launch_of k arguments items buffers) (start given) end.turns) end.holds end.complete buffer byte (ltb-true byte (4 * items) e))
+            cond_both (nat_lt byte (4 * items)) _ _ (λ x. x ≡ (run launch (start given) end.turns).bytes (Global buffer byte))
+            (λ e. byte_within (run launch (start given) end.turns) end.holds end.complete buffer byte (ltb-true byte (4 * items) e))
             (λ e. sym (end.holds.outside buffer byte (ltb-false byte (4 * items) e)));
       }
