@@ -10,7 +10,7 @@ use Rattle.item_acts.specs.declared.acts.Asked.TheVariants.{Act}
 use Rattle.item_acts.specs.Launches.{Launch, ItemAsks, State, Standing, Going, Ended, Faulted, start, opening_bytes, covers, with_field_at, after, Turn, Does, Passes, IsInside, IsTurn, MayDo, Waits, run}
 use Rattle.item_acts.specs.Tame.{Access, IsRace, HasRace, NeverPasses, IsApart, FaultsAtMostLast, IsFirst, RunsFirst, LaunchLeaves}
 use Rattle.item_acts.proofs.Launches.{put_at_same, with_field_at_out, with_field_at_other}
-use Rattle.item_acts.specs.Examples.{fives, loads, stores, barrier_at, own_bytes, one_byte, both_load, barred, one_waits, Races, RacesNot, Completes, seven_eight_nine}
+use Rattle.item_acts.specs.Examples.{fives, loads, stores, barrier_at, own_bytes, one_byte, both_load, barred, one_waits, Races, RacesNot, Completes, seven_eight_nine, one_first}
 
 -- an item that goes on and asks at once for an action may do it
 may : {l : Launch} {s : State} {item : ℕ} {a : Action} → item < l.items → s.standing item ≡ Going
@@ -135,7 +135,53 @@ stores_race = (
   },
 )
 
--- and so they do in one group with no barrier between them
+-- both items of that launch end
+two_ended : (standing : ℕ → Standing) → standing 0 ≡ Ended → standing 1 ≡ Ended → (item : ℕ) → item < 2 → standing item ≡ Ended
+two_ended standing a b zero h = a
+two_ended standing a b (suc zero) h = b
+two_ended standing a b (suc (suc item)) h = absurd (omega arith)
+
+-- the turns of their schedule by least item
+race_turns : List Turn
+race_turns = Does 0 (stores 0 0) ∷ Does 0 End ∷ Does 1 (stores 0 1) ∷ Does 1 End ∷ []
+
+-- behind them the later store stands
+race_bytes : (buffer byte : ℕ) → one_first buffer byte ≡ (run (one_byte 1) (start fives) race_turns).bytes (Global buffer byte)
+unfolding race_turns
+race_bytes zero zero = refl
+race_bytes zero (suc byte) =
+    let first = with_field_at (opening_bytes fives) (Global 0 0) 1 0 in
+    sym (with_field_at_out first 0 0 1 1 (suc byte) (inr (omega arith)) ∙ with_field_at_out (opening_bytes fives) 0 0 1 0 (suc byte) (inr (omega arith)))
+race_bytes (suc buffer) byte =
+    let first = with_field_at (opening_bytes fives) (Global 0 0) 1 0 in
+    cond-false _ _ _ (ne_eqb (suc buffer) 0 (λ e. omega arith))
+    ∙ sym (
+    with_field_at_other first 0 (suc buffer) 0 1 1 byte (λ e. omega arith)
+    ∙ with_field_at_other (opening_bytes fives) 0 (suc buffer) 0 1 0 byte (λ e. omega arith))
+
+-- where stores race the schedule by least item leaves that of the greater item
+pub last_store_stays : LaunchLeaves (one_byte 1) fives one_first
+unfolding race_turns
+last_store_stays = record {
+  turns = race_turns;
+  first = (
+    may (lit< tt) refl refl (lit≤ tt),
+    λ item a h. omega arith,
+    (
+      may (lit< tt) refl refl tt,
+      λ item a h. omega arith,
+      (
+        may (lit< tt) refl refl (lit≤ tt),
+        past_one (stores 0 1) refl,
+        (may (lit< tt) refl refl tt, past_one End refl, tt),
+      ),
+    ),
+  );
+  complete = two_ended _ refl refl;
+  bytes = race_bytes;
+}
+
+-- stores of one group with no barrier between them race too
 pub stores_race_in_group : Races (one_byte 2) (Does 0 (stores 0 0) ∷ Does 1 (stores 0 1) ∷ [])
 stores_race_in_group = (
   (may (lit< tt) refl refl (lit≤ tt), (may (lit< tt) refl refl (lit≤ tt), tt)),
@@ -239,6 +285,28 @@ passes_still other point h e (inr (inr (going, (pos, asks)))) = faults_not other
 pub waiting_is_not_apart : IsApart (one_waits 2) (start fives) → ⊥
 waiting_is_not_apart h = passes_still h.other h.point h.exist.1 (waits_there h.waiting h.point h.exist.0 h.waits) h.never
 
+-- where the other is of another group, who waits is item 0 alone
+waits_alone : (item : ℕ) (point : Point) → item < 2 → Waits (one_waits 1) (run (one_waits 1) (start fives) (Does 1 (stores 0 4) ∷ Does 1 End ∷ [])) item point
+    → (item ≡ 0) × (point ≡ barrier_at 1)
+waits_alone zero point h waits = let e = waits.asks.asked in (refl, cc)
+waits_alone (suc zero) point h waits = let going = waits.going in absurd (cc)
+waits_alone (suc (suc item)) point h waits = absurd (omega arith)
+
+-- its group has only itself, which passes
+passes_alone : (other : ℕ) (point : Point) → other < 2 → 0 ≡ other → point ≡ barrier_at 1
+    → NeverPasses (one_waits 1) (run (one_waits 1) (start fives) (Does 1 (stores 0 4) ∷ Does 1 End ∷ [])) other point → ⊥
+passes_alone zero point h own e (inl ended) = cc
+passes_alone zero point h own e (inr (inl (point', differ, waits))) = let e' = (waits_alone zero point' h waits).1 in differ (cc)
+passes_alone zero point h own e (inr (inr (going, (pos, asks)))) = let e' = asks.asked in cc
+passes_alone (suc other) point h own e never = omega arith
+
+-- so nobody is apart there
+pub groups_are_not_apart : IsApart (one_waits 1) (run (one_waits 1) (start fives) (Does 1 (stores 0 4) ∷ Does 1 End ∷ [])) → ⊥
+groups_are_not_apart h =
+    let first = waits_alone h.waiting h.point h.exist.0 h.waits in
+    let together = h.together in
+    passes_alone h.other h.point h.exist.1 (omega arith) first.1 h.never
+
 -- an item that stops at a fault stands there
 pub fault_stands : (l : Launch) (s : State) (item : ℕ) (pos : Pos)
     → (after l s (Does item (Fault pos))).standing item ≡ Faulted pos
@@ -251,10 +319,18 @@ pub covers_bounds : (covers (Global 0 4) 4 (Global 0 3) ≡ false) × (covers (G
     × (covers (Local 2 1 4) 2 (Global 1 5) ≡ false)
 covers_bounds = (refl, refl, refl, refl, refl, refl, refl, refl, refl)
 
--- a field is inside up to the last byte, and the launch has no local array
-pub inside_bounds : IsInside own_bytes (Global 0 3) 1 × (IsInside own_bytes (Global 0 3) 2 → ⊥)
-    × (IsInside own_bytes (Global 1 0) 1 → ⊥) × (IsInside own_bytes (Local 0 0 0) 1 → ⊥)
-inside_bounds = (lit≤ tt, λ h. omega arith, λ h. omega arith, λ h. omega (arith, h.1))
+-- a field is inside up to the last byte of a buffer that the launch has
+pub inside_bounds : IsInside own_bytes (Global 0 3) 1 × (IsInside own_bytes (Global 0 3) 2 → ⊥) × (IsInside own_bytes (Global 1 0) 1 → ⊥)
+inside_bounds = (lit≤ tt, λ h. omega arith, λ h. omega arith)
+
+-- three groups with a local array of two bytes each
+abbrev with_array : Launch
+with_array = record own_bytes { locals = 2 ∷ [] }
+
+-- and so is a field of a local array of a group
+pub inside_local : IsInside with_array (Local 2 0 1) 1 × (IsInside with_array (Local 2 0 1) 2 → ⊥) × (IsInside with_array (Local 2 1 0) 1 → ⊥)
+    × (IsInside with_array (Local 3 0 1) 1 → ⊥)
+inside_local = ((lit< tt, lit≤ tt), λ h. omega (arith, h.1), λ h. omega (arith, h.1), λ h. omega (arith, h.0))
 
 -- a fault may be the last turn, and no earlier one
 pub fault_last : (pos : Pos)

@@ -78,3 +78,7 @@ Completes l turns = Allowed l (start fives) turns × IsComplete l (run l (start 
 -- the first three bytes of the first buffer are 7, 8 and 9, and each other byte is still 5
 abbrev pub seven_eight_nine : ℕ → ℕ → ℕ
 seven_eight_nine buffer byte = if nat_eq buffer 0 then slice_index_or (7 ∷ 8 ∷ 9 ∷ []) byte 5 else 5
+
+-- the first byte of the first buffer is 1, and each other byte is still 5
+abbrev pub one_first : ℕ → ℕ → ℕ
+one_first buffer byte = if nat_eq buffer 0 then slice_index_or (1 ∷ []) byte 5 else 5

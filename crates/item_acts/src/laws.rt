@@ -5,7 +5,7 @@ ghost use Rattle.std.specs.Prelude.{[], ◌∷◌};
 ghost use Rattle.item_acts.specs.declared.acts.Action.TheVariants.{End};
 ghost use Rattle.item_acts.specs.Launches.{start, Does, Passes, run};
 ghost use Rattle.item_acts.specs.Tame.{IsApart, LaunchLeaves};
-ghost use Rattle.item_acts.specs.Examples.{loads, stores, barrier_at, fives, own_bytes, one_byte, both_load, barred, one_waits, seven_eight_nine, Races, RacesNot, Completes};
+ghost use Rattle.item_acts.specs.Examples.{loads, stores, barrier_at, fives, own_bytes, one_byte, both_load, barred, one_waits, seven_eight_nine, one_first, Races, RacesNot, Completes};
 
 /// Three items that store to bytes of their own do so in any order, and leave each its number.
 #[tactic(auto, using(crate::proofs::Examples::own_bytes_complete, crate::proofs::Examples::own_bytes_leave))]
@@ -14,10 +14,11 @@ pub fn own_bytes_are_stored()
     ensures left { LaunchLeaves own_bytes fives seven_eight_nine }
 {}
 
-/// Stores of two items to one byte race, in two groups and in one.
-#[tactic(auto, using(crate::proofs::Examples::stores_race, crate::proofs::Examples::stores_race_in_group))]
+/// Stores of two items to one byte race, in two groups and in one, and the schedule by least item leaves the later.
+#[tactic(auto, using(crate::proofs::Examples::stores_race, crate::proofs::Examples::stores_race_in_group, crate::proofs::Examples::last_store_stays))]
 pub fn stores_race()
     ensures apart { Races (one_byte 1) (Does 0 (stores 0 0) ∷ Does 1 (stores 0 1) ∷ []) }
+    ensures left { LaunchLeaves (one_byte 1) fives one_first }
     ensures in_group { Races (one_byte 2) (Does 0 (stores 0 0) ∷ Does 1 (stores 0 1) ∷ []) }
 {}
 
@@ -28,9 +29,11 @@ pub fn barrier_orders()
     ensures loads { RacesNot both_load (Does 0 (loads 0) ∷ Does 1 (loads 0) ∷ []) }
 {}
 
-/// An item that waits at a barrier is apart from one of its group that has ended, and not while that one goes on.
-#[tactic(auto, using(crate::proofs::Examples::ended_is_apart, crate::proofs::Examples::waiting_is_not_apart))]
+/// An item that waits at a barrier is apart from one of its group that has ended, but not while that one goes on, nor
+/// from one of another group.
+#[tactic(auto, using(crate::proofs::Examples::ended_is_apart, crate::proofs::Examples::waiting_is_not_apart, crate::proofs::Examples::groups_are_not_apart))]
 pub fn ended_is_apart()
     ensures ended { IsApart (one_waits 2) (run (one_waits 2) (start fives) (Does 1 (stores 0 4) ∷ Does 1 End ∷ [])) }
     ensures going { IsApart (one_waits 2) (start fives) → ⊥ }
+    ensures other_group { IsApart (one_waits 1) (run (one_waits 1) (start fives) (Does 1 (stores 0 4) ∷ Does 1 End ∷ [])) → ⊥ }
 {}
