@@ -2,3 +2,9 @@ pub mod DeliveryLaws
 pub mod OutputLaws
 pub mod ReadingLaws
 pub mod LoadingLaws
+pub mod FirstLaunchItem
+pub mod FirstLaunchBytes
+pub mod FirstLaunchState
+pub mod FirstLaunchTame
+pub mod FirstLaunchLeaves
+pub mod FirstLaunchExamples

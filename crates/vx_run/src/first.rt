@@ -3,4 +3,5 @@
 //! Read first `tree` for the form of such a kernel, then `specs/FirstText.antt` for the texts that spell one, and
 //! `specs/First.antt` for what a work-item does.
 
+pub mod laws;
 pub mod tree;
