@@ -1,2 +1,2 @@
-pub mod SourceLemmas
+pub mod SourceBytes
 pub mod WritingLemmas

@@ -23,3 +23,6 @@ pub use mem_out::MemOut;
 pub use reading::{Entry, EntryList, Files, ReadFault};
 pub use stream_out::StreamOut;
 pub use writing::{Out, OutFault};
+
+#[cfg(test)]
+mod tests;

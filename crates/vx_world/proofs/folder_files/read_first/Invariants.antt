@@ -1,5 +1,5 @@
 use Rattle.std.proofs.Common.{◌≤◌, length}
-use Rattle.vx_world.proofs.SourceLemmas.{HasGiven}
+use Rattle.vx_world.proofs.SourceBytes.{HasGiven}
 use Rattle.vx_world.proofs.folder_files.read_first.Given as goal
 
 abbrev pub invariant-loop : goal.invariant-loop
