@@ -1,5 +1,6 @@
 ghost use Rattle.std.specs.Prelude.{◌≡◌, ◌≢◌, ◌<◌, ◌≤◌, None, Some, Err, length, take, drop, IfOk, OnOk, IsUtf8};
 ghost use Rattle.std.specs.Option.{ForSome};
+ghost use Rattle.vx_world.specs.Counts.{next_count};
 ghost use Rattle.vx_world.specs.Reading.{bytes_named, CountsFaults, CountsMisses, ReadGives};
 
 use crate::reading::{Files, ReadFault};
@@ -7,7 +8,8 @@ use std::alloc::Global;
 use std::io::{ErrorKind, Read};
 use std::{fs, rt, str};
 
-/// The files of the system, which are told by nobody. A name is a path, and one that is not UTF-8 fails to be read.
+/// The files of the system, of whose bytes contracts are told nothing. A name is a path, and one that is not UTF-8 fails
+/// to be read.
 #[derive(Debug, Drop)]
 pub struct FolderFiles<'a, R> {
     rt: &'a R,
@@ -50,6 +52,8 @@ impl<'a, R: rt::Files> Files for FolderFiles<'a, R> {
         ensures faults_never_fall { self.old.faults ≤ self.new.faults }
         ensures misses { CountsMisses result self.old.misses self.new.misses }
         ensures misses_never_fall { self.old.misses ≤ self.new.misses }
+        ensures failed_once { result ≡ Err ReadFault.Failed → self.new.faults ≡ next_count self.old.faults }
+        ensures missed_once { result ≡ Err ReadFault.Missing → self.new.misses ≡ next_count self.old.misses }
         ensures no_text { ¬ (IsUtf8 name.now) → result ≡ Err ReadFault.Failed }
     {
         match read_file(self.rt, alloc, name, most) {
