@@ -1,6 +1,6 @@
 /// A place that a core passes before each work-group that it starts, where a test may hold it.
 pub trait Gate {
-    /// Lets a core go on to a group. It returns once the core may go on.
+    /// Lets a core go on to a group. It always returns, and changes nothing that a contract names.
     fn pass(&self, core: u32, group: u32);
 }
 

@@ -7,15 +7,22 @@
 #![tactic(auto)]
 
 pub mod calls;
+pub mod folder_files;
 pub mod gates;
 pub mod mem_files;
 pub mod mem_out;
 pub mod reading;
+pub mod stream_out;
 pub mod writing;
 
 pub use calls::CallList;
+pub use folder_files::FolderFiles;
 pub use gates::{Gate, NoGate};
 pub use mem_files::{MemFiles, SureFiles};
 pub use mem_out::MemOut;
 pub use reading::{Entry, EntryList, Files, ReadFault};
+pub use stream_out::StreamOut;
 pub use writing::{Out, OutFault};
+
+#[cfg(test)]
+mod tests;
