@@ -8,3 +8,4 @@ pub mod FirstLaunchState
 pub mod FirstLaunchTame
 pub mod FirstLaunchLeaves
 pub mod FirstLaunchExamples
+pub mod LayoutLaws

@@ -10,3 +10,4 @@ pub mod Delivery
 pub mod Output
 pub mod Answers
 pub mod Stages
+pub mod Layout

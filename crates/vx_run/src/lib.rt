@@ -6,6 +6,7 @@
 
 pub mod first;
 pub mod words;
+pub mod layout;
 pub mod loading;
 pub mod reading;
 pub mod stages;

@@ -55,7 +55,6 @@ pub fn push_buffer(
     name: &Text,
     words: &[u32],
 ) -> Result<(), Memory>
-    requires { length words.now < 2 ^ 32 }
     ensures { OnOk result (text.new.items ≡ text.old.items ++ buffer_text name.now words.now) }
 {
     push_head(alloc, text, name, words.len())?;
@@ -63,7 +62,6 @@ pub fn push_buffer(
 }
 
 fn push_lines(alloc: Global, text: &mut Vec<u8>, words: &[u32]) -> Result<(), Memory>
-    requires { length words.now < 2 ^ 32 }
     ensures { OnOk result (text.new.items ≡ text.old.items ++ elements_text words.now) }
 {
     for line in 0..words.len().div_ceil(ROW) {
