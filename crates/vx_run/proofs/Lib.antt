@@ -9,3 +9,4 @@ pub mod FirstLaunchTame
 pub mod FirstLaunchLeaves
 pub mod FirstLaunchExamples
 pub mod LayoutLaws
+pub mod MemoryLaws
