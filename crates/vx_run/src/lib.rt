@@ -5,4 +5,5 @@
 #![tactic(auto)]
 
 pub mod first;
+pub mod numbers;
 pub mod words;

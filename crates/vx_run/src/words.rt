@@ -1,4 +1,11 @@
+ghost use Rattle.std.specs.Prelude.{◌≡◌};
+ghost use Rattle.vx_run.specs.declared.words.UsageFault.TheVariants.{Memory};
+
 use vx_base::{ListOf, Text};
+
+mod further;
+
+use std::alloc::{AllocError, AllocFailed};
 
 /// Where the bytes of a buffer come from.
 #[derive(Debug, Drop)]
@@ -33,4 +40,43 @@ pub struct RunWords {
     pub arguments: ListOf<u32>,
     /// The number of the buffer that each `show` names.
     pub shows: ListOf<u32>,
+}
+
+/// What is wrong with the words of the command line.
+#[derive(Clone, Copy, Debug, PartialEq, Eq)]
+pub enum UsageKind {
+    /// The first word is no command.
+    Command,
+    /// The words behind the command do not have its form.
+    Form,
+}
+
+/// Why words are not read.
+#[derive(Clone, Copy, Debug, PartialEq, Eq)]
+pub enum UsageFault {
+    /// The words are not as they should be.
+    Usage {
+        /// The number of the word, from 0.
+        word: u32,
+        /// What is wrong.
+        kind: UsageKind,
+    },
+    /// Memory ran out.
+    Memory,
+}
+
+impl From<AllocError> for UsageFault {
+    ghost from_gives = { λ _ e. e ≡ Memory };
+
+    fn from(_e: AllocError) -> UsageFault {
+        UsageFault::Memory
+    }
+}
+
+impl<T: Drop> From<AllocFailed<T>> for UsageFault {
+    ghost from_gives = { λ _ e. e ≡ Memory };
+
+    fn from(_e: AllocFailed<T>) -> UsageFault {
+        UsageFault::Memory
+    }
 }
