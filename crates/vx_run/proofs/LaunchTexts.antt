@@ -13,7 +13,7 @@ use Rattle.vx_run.proofs.Texts.{lacks_by_place, lacks_not, cut_same, name_cut}
 own : IsNumeralModel (AllDigits 10) (digits_value 10)
 own = numerals_by_value (AllDigits 10) tells_digits
 
-decimal_lacks_slash : (n : ℕ) → n < 2 ^ 64 → Lacks 47 (decimal n)
+pub decimal_lacks_slash : (n : ℕ) → n < 2 ^ 64 → Lacks 47 (decimal n)
 decimal_lacks_slash n l = lacks_by_place 47 (decimal n) (not_in_digits own (decimal n) 47 (digits_decimal own n l) (λ r. omega (arith, r.0)))
 
 -- the text of a launch with these parts
@@ -21,7 +21,7 @@ abbrev pub IsLaunchText : List ℕ → List ℕ → ℕ → List ℕ → Type 0
 IsLaunchText text entry items arguments = text ≡ entry ++ codes "/" ++ decimal items ++ codes "/" ++ decimal items ++ arguments
 
 module _ (text entry arguments : List ℕ) (items : ℕ) (name : IsName entry) (few : items ≤ 32) (spelled : IsLaunchText text entry items arguments) where
-  regrouped : text ≡ entry ++ 47 ∷ (decimal items ++ 47 ∷ (decimal items ++ arguments))
+  pub regrouped : text ≡ entry ++ 47 ∷ (decimal items ++ 47 ∷ (decimal items ++ arguments))
   regrouped = spelled ∙ simp append_assoc
 
   pub launch_has_slash : Lacks 47 text → ⊥

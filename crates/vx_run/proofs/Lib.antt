@@ -4,3 +4,6 @@ pub mod Refusals
 pub mod Lists
 pub mod LaunchTexts
 pub mod FurtherTexts
+pub mod NumberedNames
+pub mod WordParts
+pub mod RunMeaning

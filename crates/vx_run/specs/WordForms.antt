@@ -1,13 +1,14 @@
-use Rattle.std.specs.Prelude.{◌≡◌, ◌≢◌, ℕ, ◌≤◌, List, [], ◌∷◌, ◌++◌, map, Result, MatchResult, codes}
+use Rattle.std.specs.Prelude.{◌≡◌, ◌≢◌, ℕ, ◌<◌, ◌≤◌, List, [], ◌∷◌, ◌++◌, length, map, slice_get, Option, Some, Result, MatchResult, codes}
 use Rattle.std.specs.List.{AllByRecursion, filter_map, join_with_byte}
 use Rattle.vx_run.specs.Names.{IsName}
-use Rattle.vx_run.specs.Words.{Further, Buffer, Launch, Show, word_text, origin_text, arguments_text, buffer_of, IsOrigin, AreNumbersOf, AreDistinct}
+use Rattle.vx_run.specs.Words.{Further, Buffer, Launch, Show, LaunchWord, word_text, buffer_of, launch_of_word, show_of, IsOrigin, AreNumbersOf, AreDistinct}
 use Rattle.vx_run.specs.declared.words.UsageKind.{UsageKind}
 use Rattle.vx_run.specs.declared.words.UsageKind.TheVariants.{Form}
 use Rattle.vx_run.specs.declared.words.UsageFault.{UsageFault}
 use Rattle.vx_run.specs.declared.words.UsageFault.TheVariants.{Usage, Memory}
 use Rattle.vx_run.specs.declared.words.BufWord.{BufWord}
 use Rattle.vx_run.specs.declared.words.RunWords.{RunWords}
+use Rattle.vx_run.specs.declared.words.form.Parts.{Parts}
 use Rattle.vx_run.specs.declared.words.further.DoWord.{DoWord}
 use Rattle.vx_run.specs.declared.words.further.FurtherWord.{FurtherWord}
 use Rattle.vx_run.specs.declared.words.further.FurtherWord.TheVariants.{Buf, Do, Print}
@@ -49,3 +50,27 @@ further_of (Print name) = Show name
 pub record Spells (further : List Further) (words : List (List ℕ)) : Type 0 where
   pub texts : words ≡ map word_text further
   pub each : AllByRecursion IsFurther further
+
+-- the place is the first at which this stands in the list
+abbrev pub IsFirstOf : List (List ℕ) → ℕ → List ℕ → Type 0
+IsFirstOf names n name = (slice_get names n ≡ Some name) × ((k : ℕ) → k < n → slice_get names k ≢ Some name)
+
+abbrev pub launch_word : DoWord → LaunchWord
+launch_word d = record { entry = d.entry; items = d.items; names = d.names }
+
+-- these are the words behind the file by what they say
+pub record IsParts (further : List Further) (p : Parts) : Type 0 where
+  pub buffers : filter_map buffer_of further ≡ p.buffers
+  pub launches : filter_map launch_of_word further ≡ map launch_word p.launches
+  pub shows : filter_map show_of further ≡ p.shows
+
+-- the parts ask for this
+pub record IsMeaning (p : Parts) (c : RunWords) : Type 0 where
+  pub buffers : p.buffers ≡ c.buffers
+  pub names : List (List ℕ)
+  pub launch : p.launches ≡ record { entry = c.entry; items = c.items; names = names } ∷ []
+  pub arguments : AreNumbersOf c.buffers c.arguments names
+  pub shows : AreNumbersOf c.buffers c.shows p.shows
+  pub few_buffers : length c.buffers ≤ 16
+  pub few_shows : length c.shows ≤ 16
+  pub distinct : AreDistinct (map (λ b. b.name) c.buffers)

@@ -3,7 +3,9 @@ ghost use Rattle.vx_run.specs.declared.words.UsageFault.TheVariants.{Memory};
 
 use vx_base::{ListOf, Text};
 
+mod form;
 mod further;
+mod numbers;
 
 use std::alloc::{AllocError, AllocFailed};
 
