@@ -1,5 +1,5 @@
 -- The words of `run`, from the words behind the file and what they say.
-use Rattle.std.proofs.Common.{◌≡◌, ℕ, zero, suc, ◌+◌, ◌<◌, ◌≤◌, List, [], ◌∷◌, ◌++◌, length, get_or, drop, map, Some, refl, sym, ap, ◌∙◌, subst, arith}
+use Rattle.std.proofs.Common.{◌≡◌, ℕ, zero, suc, ◌+◌, ◌<◌, ◌≤◌, ◌⊎◌, inl, inr, Result, Ok, Err, List, [], ◌∷◌, ◌++◌, length, get_or, drop, map, Some, refl, sym, ap, ◌∙◌, subst, arith}
 use Rattle.std.specs.Prelude.{codes, slice_get, All}
 use Rattle.std.specs.List.{AllByRecursion, filter_map}
 use Rattle.std.proofs.lemmas.List.{length-map}
@@ -9,9 +9,12 @@ use Rattle.vx_run.specs.declared.words.BufWord.{BufWord}
 use Rattle.vx_run.specs.declared.words.RunWords.{RunWords}
 use Rattle.vx_run.specs.declared.words.form.Parts.{Parts}
 use Rattle.vx_run.specs.declared.words.further.DoWord.{DoWord}
+use Rattle.vx_run.specs.declared.words.UsageKind.TheVariants.{Form}
+use Rattle.vx_run.specs.declared.words.UsageFault.{UsageFault}
+use Rattle.vx_run.specs.declared.words.UsageFault.TheVariants.{Usage, Memory}
 use Rattle.vx_run.specs.Names.{IsName}
 use Rattle.vx_run.specs.Words.{Further, Buffer, Launch, Show, LaunchWord, word_text, buffer_of, launch_of_word, show_of, IsOrigin, AreNumbersOf, AreDistinct, IsRun}
-use Rattle.vx_run.specs.WordForms.{IsFurther, Spells, IsParts, IsMeaning, launch_word}
+use Rattle.vx_run.specs.WordForms.{BeginsRun, Finds, IsFurther, Spells, IsParts, IsMeaning, launch_word}
 use Rattle.vx_run.proofs.NumberedNames.{names_of, AreNumbersOf-length, AreNumbersOf-same}
 use Rattle.vx_run.proofs.FurtherTexts.{word_same}
 
@@ -152,3 +155,48 @@ module _ (file : List ℕ) (words : List (List ℕ)) where
             distinct = h.distinct;
           },
         )
+
+-- the words of `run` from their fields
+run_record : List ℕ → List BufWord → List ℕ → ℕ → List ℕ → List ℕ → RunWords
+run_record file buffers entry items arguments shows = record { file = file; buffers = buffers; entry = entry; items = items; arguments = arguments; shows = shows }
+
+same_fields : (c d : RunWords) → c.file ≡ d.file → c.buffers ≡ d.buffers → c.entry ≡ d.entry → c.items ≡ d.items → c.arguments ≡ d.arguments → c.shows ≡ d.shows → c ≡ d
+unfolding run_record
+same_fields c d file buffers entry items arguments shows =
+    let one : c ≡ run_record c.file c.buffers c.entry c.items c.arguments c.shows = refl in
+    let two : run_record d.file d.buffers d.entry d.items d.arguments d.shows ≡ d = refl in
+    one ∙ same_record ∙ two
+  where
+  same_record : run_record c.file c.buffers c.entry c.items c.arguments c.shows ≡ run_record d.file d.buffers d.entry d.items d.arguments d.shows
+  same_record = cc
+
+-- words ask for one thing
+pub IsRun-same : (ws : List (List ℕ)) (c d : RunWords) → IsRun ws c → IsRun ws d → c ≡ d
+IsRun-same ws c d h k =
+    let texts : codes "run" ∷ c.file ∷ map word_text h.further ≡ codes "run" ∷ d.file ∷ map word_text k.further = sym h.spelled ∙ k.spelled in
+    let further : h.further ≡ k.further = texts_same h.further k.further (run_each ws c h) (run_each ws d k) (ap (drop 2) texts) in
+    let files : c.file ≡ d.file = ap (λ (l : List (List ℕ)). get_or l 1 []) texts in
+    let buffers : c.buffers ≡ d.buffers = sym h.buffers ∙ ap (filter_map buffer_of) further ∙ k.buffers in
+    let launches = sym h.launch ∙ ap (filter_map launch_of_word) further ∙ k.launch in
+    let past : LaunchWord = record { entry = []; items = 0; names = [] } in
+    let launch = ap (λ (l : List LaunchWord). get_or l 0 past) launches in
+    let entries : c.entry ≡ d.entry = ap (λ (l : LaunchWord). l.entry) launch in
+    let items : c.items ≡ d.items = ap (λ (l : LaunchWord). l.items) launch in
+    let names : h.names ≡ k.names = ap (λ (l : LaunchWord). l.names) launch in
+    let arguments' : AreNumbersOf d.buffers c.arguments k.names = subst (AreNumbersOf d.buffers c.arguments) names (subst (λ (l : List BufWord). AreNumbersOf l c.arguments h.names) buffers h.arguments) in
+    let shows' : AreNumbersOf d.buffers c.shows (filter_map show_of k.further) = subst (AreNumbersOf d.buffers c.shows) (ap (filter_map show_of) further) (subst (λ (l : List BufWord). AreNumbersOf l c.shows (filter_map show_of h.further)) buffers h.shows) in
+    same_fields c d files buffers entries items
+    (AreNumbersOf-same d.buffers c.arguments d.arguments k.names k.distinct arguments' k.arguments)
+    (AreNumbersOf-same d.buffers c.shows d.shows (filter_map show_of k.further) k.distinct shows' k.shows)
+
+-- what is found is the only thing that there is to find
+pub only_from_finds : (ws : List (List ℕ)) (r : Result RunWords UsageFault) → Finds r (IsRun ws) → (c : RunWords) → IsRun ws c → (r ≡ Ok c) ⊎ (r ≡ Err Memory)
+only_from_finds ws (Ok d) f c h = inl (ap (λ (x : RunWords). Ok x) (IsRun-same ws d c f h))
+only_from_finds ws (Err (Usage word kind)) f c h = absurd (f.2 c h)
+only_from_finds ws (Err Memory) f c h = inr refl
+
+pub form_from_finds : (ws : List (List ℕ)) (r : Result RunWords UsageFault) → Finds r (IsRun ws) → BeginsRun ws → (word : ℕ) → r ≡ Err (Usage word Form) → (word ≡ 0) × BeginsRun ws × ((c : RunWords) → IsRun ws c → ⊥)
+form_from_finds ws r f begins word e =
+    let P : Result RunWords UsageFault → Type 0 = λ (x : Result RunWords UsageFault). Finds x (IsRun ws) in
+    let g : Finds (Err (Usage word Form)) (IsRun ws) = subst P e f in
+    (g.0, begins, g.2)
