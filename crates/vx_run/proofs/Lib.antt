@@ -10,3 +10,12 @@ pub mod FirstLaunchLeaves
 pub mod FirstLaunchExamples
 pub mod LayoutLaws
 pub mod MemoryLaws
+pub mod DecimalTexts
+pub mod Texts
+pub mod Refusals
+pub mod Lists
+pub mod LaunchTexts
+pub mod FurtherTexts
+pub mod NumberedNames
+pub mod WordParts
+pub mod RunMeaning

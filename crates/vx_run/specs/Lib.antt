@@ -3,6 +3,7 @@ pub mod Names
 pub mod FirstText
 pub mod Words
 pub mod Lines
+pub mod WordForms
 pub mod First
 pub mod FirstValues
 pub mod FirstMemory

@@ -5,6 +5,7 @@
 #![tactic(auto)]
 
 pub mod first;
+pub mod numbers;
 pub mod words;
 pub mod layout;
 pub mod loading;
