@@ -5,3 +5,4 @@
 #![tactic(auto)]
 
 pub mod first;
+pub mod numbers;
