@@ -6,3 +6,4 @@
 pub mod lexer;
 pub mod tree;
 pub mod unread;
+pub mod words;

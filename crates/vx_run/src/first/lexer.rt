@@ -114,7 +114,11 @@ fn byte_at(bytes: &[u8], place: usize) -> u8
 fn bytes_from(bytes: &[u8], place: usize) -> &[u8]
     ensures { result.now ≡ drop place bytes.now }
 {
-    if place < bytes.len() { &bytes[place..] } else { &[] }
+    if place < bytes.len() {
+        &bytes[place..]
+    } else {
+        &[]
+    }
 }
 
 fn name_at(alloc: Global, bytes: &[u8]) -> Result<Text, AllocError>
