@@ -59,7 +59,7 @@ after_id tokens = do
 unfoldable pub element_at : List (List ℕ) → List Token → Read ℕ
 element_at names tokens = do
   name ← name_at tokens
-  place ← position (bytes_eq name.0) names
+  place ← position (λ other. bytes_eq other name.0) names
   opened ← after (Mark (codes "[")) name.1
   index ← after_id opened
   rest ← after (Mark (codes "]")) index
@@ -78,7 +78,7 @@ group_at inner tokens = do
   Some (Grouped sum.0, rest)
 
 unfoldable pub named_at : List (List ℕ) → List Token → Read Tree
-named_at names tokens = option_map_or (λ rest. Some (OwnId, rest)) (option_map (λ e. (OwnElement e.0, e.1)) (element_at names tokens)) (after_id tokens)
+named_at names tokens = option_map_or (λ rest. Some (OwnId, rest)) (after_id tokens) (option_map (λ e. (OwnElement e.0, e.1)) (element_at names tokens))
 
 -- what operators join: a number, the item's id, an element or a sum in parentheses
 unfoldable pub first_at : (List Token → Read Tree) → List (List ℕ) → List Token → Read Tree
@@ -91,7 +91,7 @@ unfoldable pub times_at : List Token → Read Operator
 times_at tokens = option_map (λ rest. (Multiply, rest)) (after (Mark (codes "*")) tokens)
 
 unfoldable pub plus_at : List Token → Read Operator
-plus_at tokens = option_map_or (λ rest. Some (Add, rest)) (option_map (λ rest. (Subtract, rest)) (after (Mark (codes "-")) tokens)) (after (Mark (codes "+")) tokens)
+plus_at tokens = option_map_or (λ rest. Some (Add, rest)) (after (Mark (codes "+")) tokens) (option_map (λ rest. (Subtract, rest)) (after (Mark (codes "-")) tokens))
 
 -- What is left of a chain of operators and operands behind a part of it, in fewer turns than this many.
 unfoldable pub chain_at : (List Token → Read Operator) → (List Token → Read Tree) → ℕ → Tree → List Token → Read Tree
@@ -99,8 +99,8 @@ chain_at operator operand zero left tokens = None
 chain_at operator operand (suc turns) left tokens =
     option_map_or
     (λ o. operand o.1 >>= λ right. chain_at operator operand turns (Applied o.0 left right.0) right.1)
-    (Some (left, tokens))
     (operator tokens)
+    (Some (left, tokens))
 
 unfoldable pub product_at : (List Token → Read Tree) → List (List ℕ) → List Token → Read Tree
 product_at inner names tokens = first_at inner names tokens >>= λ left. chain_at times_at (first_at inner names) 16 left.0 left.1
@@ -125,8 +125,8 @@ assignments_at names zero before tokens = None
 assignments_at names (suc turns) before tokens =
     option_map_or
     (λ rest. Some (before, rest))
-    (assignment_at names tokens >>= λ a. assignments_at names turns (before ++ a.0 ∷ []) a.1)
     (after (Mark (codes "}")) tokens)
+    (assignment_at names tokens >>= λ a. assignments_at names turns (before ++ a.0 ∷ []) a.1)
 
 -- a parameter whose name is free and not one of these
 unfoldable pub parameter_at : List (List ℕ) → List Token → Read (List ℕ)
@@ -135,7 +135,7 @@ parameter_at names tokens = do
   element ← after (Name (codes "int")) space
   pointer ← after (Mark (codes "*")) element
   name ← name_at pointer
-  if is_reserved name.0 || list_any (bytes_eq name.0) names then None else Some name
+  if is_reserved name.0 || list_any (λ other. bytes_eq other name.0) names then None else Some name
 
 -- the parameters up to the closing parenthesis, at most this many, behind those that were read before
 unfoldable pub parameters_at : ℕ → List (List ℕ) → List Token → Read (List (List ℕ))
@@ -144,8 +144,8 @@ parameters_at (suc room) before tokens =
     parameter_at before tokens >>= λ name.
     option_map_or
     (λ rest. parameters_at room (before ++ name.0 ∷ []) rest)
-    (option_map (λ rest. (before ++ name.0 ∷ [], rest)) (after (Mark (codes ")")) name.1))
     (after (Mark (codes ",")) name.1)
+    (option_map (λ rest. (before ++ name.0 ∷ [], rest)) (after (Mark (codes ")")) name.1))
 
 -- the name of a kernel, which is free
 unfoldable pub kernel_name_at : List Token → Read (List ℕ)

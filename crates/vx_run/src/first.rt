@@ -4,6 +4,7 @@
 //! `specs/First.antt` for what a work-item does. `lexer` and `parser` read a kernel from its text.
 
 pub mod lexer;
+pub mod parser;
 pub mod tree;
 pub mod unread;
 pub mod words;
