@@ -1,2 +1,4 @@
 pub mod DecimalTexts
 pub mod FirstLexing
+pub mod FirstLiterals
+pub mod FirstChains

@@ -82,10 +82,9 @@ named_at names tokens = option_map_or (λ rest. Some (OwnId, rest)) (after_id to
 
 -- what operators join: a number, the item's id, an element or a sum in parentheses
 unfoldable pub first_at : (List Token → Read Tree) → List (List ℕ) → List Token → Read Tree
-first_at inner names [] = None
 first_at inner names (Number text ∷ rest) = option_map (λ n. (Literal n, rest)) (literal_of text)
 first_at inner names (Name name ∷ rest) = named_at names (Name name ∷ rest)
-first_at inner names (Mark mark ∷ rest) = group_at inner (Mark mark ∷ rest)
+first_at inner names tokens = group_at inner tokens
 
 unfoldable pub times_at : List Token → Read Operator
 times_at tokens = option_map (λ rest. (Multiply, rest)) (after (Mark (codes "*")) tokens)

@@ -2,8 +2,8 @@ ghost use Rattle.std.specs.Prelude.{◌≡◌, ◌==◌, ◌<◌, ◌≤◌, ◌
 ghost use Rattle.std.specs.List.{list_any};
 ghost use Rattle.std.specs.Str.{bytes_eq};
 ghost use Rattle.vx_run.specs.declared.first.lexer.Token.TheVariants.{Name, Number, Mark};
-ghost use Rattle.vx_run.specs.FirstTree.{tree_of, assigns_of, form_of, height};
-ghost use Rattle.vx_run.specs.FirstReading.{Gives, after, after_id, name_at, element_at, literal_of, group_at, named_at, first_at, times_at, plus_at, product_at, sum_at, assignment_at, assignments_at, parameter_at, parameters_at, kernel_name_at, form_at, form_of_tokens, form_of_text};
+ghost use Rattle.vx_run.specs.FirstTree.{Applied, tree_of, assigns_of, form_of, height};
+ghost use Rattle.vx_run.specs.FirstReading.{Gives, after, after_id, name_at, element_at, literal_of, group_at, named_at, first_at, times_at, plus_at, chain_at, product_at, sum_at, assignment_at, assignments_at, parameter_at, parameters_at, kernel_name_at, form_at, form_of_tokens, form_of_text};
 
 use crate::first::lexer::{Token, tokens_of};
 use crate::first::tree::{Assignment, Kernel, Operator, Sum};
@@ -17,11 +17,17 @@ use vx_base::{ListOf, Memory, Text};
 /// may be, and how high a sum may be.
 const LIMIT: u32 = 16;
 
+fn bytes_of(text: &Text) -> &[u8]
+    ensures { result.now ≡ text.now }
+{
+    text.items.as_slice()
+}
+
 /// Whether a text has these bytes.
 fn is_text(text: &Text, bytes: &[u8]) -> bool
     ensures { result ≡ bytes_eq text.now bytes.now }
 {
-    text.items.as_slice() == bytes
+    bytes_of(text) == bytes
 }
 
 /// The tokens behind this punctuator.
@@ -85,7 +91,7 @@ fn place_of(names: &[Text], name: &Text) -> Option<usize>
 {
     names
         .iter()
-        .position(|other| is_text(other, name.items.as_slice()))
+        .position(|other| is_text(other, bytes_of(name)))
 }
 
 /// The parameter of `NAME[get_global_id(0)]`.
@@ -103,10 +109,11 @@ fn element_at<'a>(names: &[Text], tokens: &'a [Token]) -> Option<(u32, &'a [Toke
 }
 
 /// A number below 2^31.
-fn literal_of(text: &Text) -> Option<u32>
+fn literal_of(text: &[u8]) -> Option<u32>
     ensures { result ≡ literal_of text.now }
 {
-    decimal_number(text.items.as_slice()).filter(|number| *number < 1 << 31)
+    let number = decimal_number(text)?;
+    if number < 1 << 31 { Some(number) } else { None }
 }
 
 /// The item's id, or its own element of an array.
@@ -139,4 +146,145 @@ fn plus_at(tokens: &[Token]) -> Option<(Operator, &[Token])>
     }
     let rest = after_mark(tokens, b"-")?;
     Some((Operator::Subtract, rest))
+}
+
+/// Two sums with an operator between them.
+fn joined(alloc: Global, operator: Operator, left: Sum, right: Sum) -> Result<Sum, Unread>
+    ensures { Gives tree_of result (Some (Applied operator (tree_of left) (tree_of right))) }
+{
+    Ok(Sum::Operation {
+        operator,
+        left: Box::new(alloc, left)?,
+        right: Box::new(alloc, right)?,
+    })
+}
+
+/// A sum in parentheses, with fewer parentheses inside each other than the level.
+#[cycle(sums)]
+#[tactic(auto, unfolding(crate::specs::FirstReading::group_at))]
+fn group_at<'a>(
+    alloc: Global,
+    names: &[Text],
+    level: u32,
+    tokens: &'a [Token],
+) -> Result<(Sum, &'a [Token]), Unread>
+    requires { length names.now ≤ 16 }
+    ensures { Gives (λ found. (tree_of found.0, found.1.now)) result
+        (group_at (sum_at names.now level) tokens.now) }
+{
+    let opened = after_mark(tokens, b"(").ok_or(Unread::OtherForm)?;
+    let (sum, rest) = sum_at(alloc, names, level, opened)?;
+    let rest = after_mark(rest, b")").ok_or(Unread::OtherForm)?;
+    Ok((Sum::Group(Box::new(alloc, sum)?), rest))
+}
+
+/// What operators join: a number, the item's id, its own element of an array or a sum in parentheses.
+#[cycle(sums)]
+#[tactic(auto, unfolding(crate::specs::FirstReading::first_at))]
+fn first_at<'a>(
+    alloc: Global,
+    names: &[Text],
+    level: u32,
+    tokens: &'a [Token],
+) -> Result<(Sum, &'a [Token]), Unread>
+    requires { length names.now ≤ 16 }
+    ensures { Gives (λ found. (tree_of found.0, found.1.now)) result
+        (first_at (sum_at names.now level) names.now tokens.now) }
+{
+    match tokens {
+        [Token::Number(text), rest @ ..] => {
+            let number = literal_of(bytes_of(text)).ok_or(Unread::OtherForm)?;
+            Ok((Sum::Number(number), rest))
+        }
+        [Token::Name(_), ..] => named_at(names, tokens).ok_or(Unread::OtherForm),
+        _ => group_at(alloc, names, level, tokens),
+    }
+}
+
+/// What is left of a product behind its first part.
+#[cycle(sums)]
+fn products_from<'a>(
+    alloc: Global,
+    names: &[Text],
+    level: u32,
+    first: Sum,
+    tokens: &'a [Token],
+) -> Result<(Sum, &'a [Token]), Unread>
+    requires { length names.now ≤ 16 }
+    ensures { Gives (λ found. (tree_of found.0, found.1.now)) result
+        (chain_at times_at (first_at (sum_at names.now level) names.now) 16 (tree_of first) tokens.now) }
+{
+    let mut product = first;
+    let mut rest = tokens;
+    for _ in 0..16u32 {
+        let Some((operator, behind)) = times_at(rest) else {
+            return Ok((product, rest));
+        };
+        let (right, behind) = first_at(alloc, names, level, behind)?;
+        product = joined(alloc, operator, product, right)?;
+        rest = behind;
+    }
+    Err(Unread::OtherForm)
+}
+
+/// A product.
+#[cycle(sums)]
+#[tactic(auto, unfolding(crate::specs::FirstReading::product_at))]
+fn product_at<'a>(
+    alloc: Global,
+    names: &[Text],
+    level: u32,
+    tokens: &'a [Token],
+) -> Result<(Sum, &'a [Token]), Unread>
+    requires { length names.now ≤ 16 }
+    ensures { Gives (λ found. (tree_of found.0, found.1.now)) result
+        (product_at (sum_at names.now level) names.now tokens.now) }
+{
+    let (first, rest) = first_at(alloc, names, level, tokens)?;
+    products_from(alloc, names, level, first, rest)
+}
+
+/// What is left of a sum behind its first product.
+#[cycle(sums)]
+fn sums_from<'a>(
+    alloc: Global,
+    names: &[Text],
+    level: u32,
+    first: Sum,
+    tokens: &'a [Token],
+) -> Result<(Sum, &'a [Token]), Unread>
+    requires { length names.now ≤ 16 }
+    ensures { Gives (λ found. (tree_of found.0, found.1.now)) result
+        (chain_at plus_at (product_at (sum_at names.now level) names.now) 16 (tree_of first) tokens.now) }
+{
+    let mut sum = first;
+    let mut rest = tokens;
+    for _ in 0..16u32 {
+        let Some((operator, behind)) = plus_at(rest) else {
+            return Ok((sum, rest));
+        };
+        let (right, behind) = product_at(alloc, names, level, behind)?;
+        sum = joined(alloc, operator, sum, right)?;
+        rest = behind;
+    }
+    Err(Unread::OtherForm)
+}
+
+/// A sum, with fewer parentheses inside each other than the level.
+#[cycle(sums)]
+#[tactic(auto, using(crate::proofs::FirstChains::sum_at_level))]
+fn sum_at<'a>(
+    alloc: Global,
+    names: &[Text],
+    level: u32,
+    tokens: &'a [Token],
+) -> Result<(Sum, &'a [Token]), Unread>
+    requires { length names.now ≤ 16 }
+    ensures { Gives (λ found. (tree_of found.0, found.1.now)) result (sum_at names.now level tokens.now) }
+{
+    if level == 0 {
+        return Err(Unread::OtherForm);
+    }
+    let (first, rest) = product_at(alloc, names, level - 1, tokens)?;
+    sums_from(alloc, names, level - 1, first, rest)
 }
