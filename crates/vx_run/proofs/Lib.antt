@@ -2,3 +2,4 @@ pub mod DecimalTexts
 pub mod FirstLexing
 pub mod FirstLiterals
 pub mod FirstChains
+pub mod FirstLoops
