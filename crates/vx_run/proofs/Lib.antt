@@ -3,3 +3,4 @@ pub mod FirstLexing
 pub mod FirstLiterals
 pub mod FirstChains
 pub mod FirstLoops
+pub mod FirstFields
