@@ -4,3 +4,5 @@ pub mod FirstLiterals
 pub mod FirstChains
 pub mod FirstLoops
 pub mod FirstFields
+pub mod FirstSums
+pub mod FirstSumsAgain

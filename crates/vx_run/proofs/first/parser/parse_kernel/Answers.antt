@@ -1,4 +1,5 @@
-use Rattle.vx_run.proofs.FirstFields.{bind_some, id_is, element_is, element_again, no_id}
+use Rattle.vx_run.proofs.FirstSums.{sum_spells}
+use Rattle.vx_run.proofs.FirstSumsAgain.{sum_again}
 use Rattle.vx_run.proofs.first.parser.parse_kernel.Goals as goal
 
 pub returns-in-Ok-clause-found : goal.returns-in-Ok-clause-found
