@@ -27,11 +27,11 @@ pub record Spells (names : List (List ℕ)) (least : ℕ) (tokens : List Token) 
 abbrev pub ReadsSums : List (List ℕ) → ℕ → (List Token → Read Tree) → Type 0
 ReadsSums names least reader = (tokens : List Token) (x : Tree × List Token) → reader tokens ≡ Some x → Spells names least tokens x.0 x.1
 
-mapped : {A B : Type 0} (f : A → B) (o : Option A) (y : B) → option_map f o ≡ Some y → (x : A) × (o ≡ Some x) × (f x ≡ y)
+pub mapped : {A B : Type 0} (f : A → B) (o : Option A) (y : B) → option_map f o ≡ Some y → (x : A) × (o ≡ Some x) × (f x ≡ y)
 mapped f (Some x) y e = (x, refl, cc)
 mapped f None y e = absurd cc
 
-chosen : {A B : Type 0} (f : A → Option B) (o : Option A) (d : Option B) (y : Option B) → option_map_or f o d ≡ y → ((x : A) × (o ≡ Some x) × (f x ≡ y)) ⊎ ((o ≡ None) × (d ≡ y))
+pub chosen : {A B : Type 0} (f : A → Option B) (o : Option A) (d : Option B) (y : Option B) → option_map_or f o d ≡ y → ((x : A) × (o ≡ Some x) × (f x ≡ y)) ⊎ ((o ≡ None) × (d ≡ y))
 chosen f (Some x) d y e = inl (x, refl, e)
 chosen f None d y e = inr (refl, e)
 

@@ -6,3 +6,4 @@ pub mod FirstLoops
 pub mod FirstFields
 pub mod FirstSums
 pub mod FirstSumsAgain
+pub mod FirstKernels

@@ -1,5 +1,4 @@
-use Rattle.vx_run.proofs.FirstSums.{sum_spells}
-use Rattle.vx_run.proofs.FirstSumsAgain.{sum_again}
+use Rattle.vx_run.proofs.FirstKernels.{parameters_are}
 use Rattle.vx_run.proofs.first.parser.parse_kernel.Goals as goal
 
 pub returns-in-Ok-clause-found : goal.returns-in-Ok-clause-found
