@@ -50,7 +50,7 @@ apart_again before name [] h g = tt
 apart_again before name (y ∷ ys) h g =
     (any_push (λ other. bytes_eq other y) before name ∙ neither_again (list_any (λ other. bytes_eq other y) before) (bytes_eq name y) h.0 g.0, apart_again before name ys h.1 g.1)
 
-apart_none : (names : List (List ℕ)) → AreApart [] names
+pub apart_none : (names : List (List ℕ)) → AreApart [] names
 apart_none [] = tt
 apart_none (x ∷ xs) = (refl, apart_none xs)
 
@@ -135,7 +135,7 @@ no_comma : (rest : List Token) → after (Mark (codes ",")) (Mark (codes ")") �
 unfolding after
 no_comma rest = refl
 
-parameters_again : (room : ℕ) (before : List (List ℕ)) (name : List ℕ) (more : List (List ℕ)) (rest : List Token) → length more ≤ room → AllByRecursion (λ name. is_reserved name ≡ false) (name ∷ more) → AreApart before (name ∷ more) → IsDistinct bytes_eq (name ∷ more)
+pub parameters_again : (room : ℕ) (before : List (List ℕ)) (name : List ℕ) (more : List (List ℕ)) (rest : List Token) → length more ≤ room → AllByRecursion (λ name. is_reserved name ≡ false) (name ∷ more) → AreApart before (name ∷ more) → IsDistinct bytes_eq (name ∷ more)
     → parameters_at (suc room) before (parameters_tokens (name ∷ more) (Mark (codes ")") ∷ rest)) ≡ Some (before ++ name ∷ more, rest)
 unfolding parameters_at IsDistinct
 parameters_again room before name [] rest le free apart differ =

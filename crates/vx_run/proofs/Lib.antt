@@ -7,3 +7,4 @@ pub mod FirstFields
 pub mod FirstSums
 pub mod FirstSumsAgain
 pub mod FirstKernels
+pub mod FirstTexts

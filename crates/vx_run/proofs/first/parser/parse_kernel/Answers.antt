@@ -1,5 +1,16 @@
-use Rattle.vx_run.proofs.FirstKernels.{parameters_are}
+use Rattle.std.proofs.Common.{Some, ap, sym, ◌∙◌}
+use Rattle.vx_run.proofs.FirstTexts.{text_is, text_again}
+use Rattle.vx_run.specs.FirstTree.{form_of}
 use Rattle.vx_run.proofs.first.parser.parse_kernel.Goals as goal
 
 pub returns-in-Ok-clause-found : goal.returns-in-Ok-clause-found
-returns-in-Ok-clause-found c = ?
+returns-in-Ok-clause-found c = text_is c.args.source.now (form_of c.in-Ok.kernel) c.in-Ok.ensures
+
+pub returns-in-Ok-clause-only : goal.returns-in-Ok-clause-only
+returns-in-Ok-clause-only c = λ form h. sym c.in-Ok.ensures ∙ text_again c.args.source.now form h
+
+pub returns-in-Err-OtherForm-clause-none : goal.returns-in-Err-OtherForm-clause-none
+returns-in-Err-OtherForm-clause-none c = λ form h. let a = text_again c.args.source.now form h in ?
+
+pub returns-in-Err-OtherForm-clause-only : goal.returns-in-Err-OtherForm-clause-only
+returns-in-Err-OtherForm-clause-only c = λ form h. let a = c.in-Err-OtherForm.ensures in ?
