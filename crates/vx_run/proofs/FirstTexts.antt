@@ -207,3 +207,9 @@ text_is bytes k e =
 pub text_again : (bytes : List ℕ) (k : Form) → IsKernelText bytes k → form_of_text bytes ≡ Some k
 unfolding form_of_text form_of_tokens
 text_again bytes k h = rw (h.tokens, form_again k [] h.well_formed) refl
+
+-- where nothing is read, nothing is spelled so
+pub none_spelled : (bytes : List ℕ) (k : Form) → form_of_text bytes ≡ None → IsKernelText bytes k → ⊥
+none_spelled bytes k none h =
+    let again = text_again bytes k h in
+    cc
