@@ -19,3 +19,12 @@ pub mod FurtherTexts
 pub mod NumberedNames
 pub mod WordParts
 pub mod RunMeaning
+pub mod FirstLexing
+pub mod FirstLiterals
+pub mod FirstChains
+pub mod FirstLoops
+pub mod FirstFields
+pub mod FirstSums
+pub mod FirstSumsAgain
+pub mod FirstKernels
+pub mod FirstTexts

@@ -4,6 +4,8 @@ pub mod FirstText
 pub mod Words
 pub mod Lines
 pub mod WordForms
+pub mod FirstTokens
+pub mod FirstReading
 pub mod First
 pub mod FirstValues
 pub mod FirstMemory

@@ -1,7 +1,11 @@
 //! Kernels of assignments: each work-item assigns sums to its own elements of the parameters' arrays.
 //!
 //! Read first `tree` for the form of such a kernel, then `specs/FirstText.antt` for the texts that spell one, and
-//! `specs/First.antt` for what a work-item does.
+//! `specs/First.antt` for what a work-item does. `lexer` and `parser` read a kernel from its text.
 
 pub mod laws;
+pub mod lexer;
+pub mod parser;
 pub mod tree;
+pub mod unread;
+pub mod words;
