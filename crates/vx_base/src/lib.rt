@@ -6,8 +6,12 @@
 
 pub mod bytes;
 pub mod lists;
+pub mod masks;
 pub mod types;
+pub mod values;
 
 pub use bytes::{get_le, put_le};
 pub use lists::{KindList, ListOf, SizeList, Text, WordList};
+pub use masks::{lanes_mask, least};
 pub use types::{Alu, Elem, Memory, ParamKind, Pos, Size, Space};
+pub use values::{alu_value, fit};
