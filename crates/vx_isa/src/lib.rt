@@ -3,6 +3,8 @@
 //! Read first `instr` for the table's rows, then `specs/Effects.antt` for what a row does.
 #![tactic(auto)]
 
+pub mod effects;
 pub mod instr;
 
+pub use effects::effect;
 pub use instr::{Instr, LaneEffect};
