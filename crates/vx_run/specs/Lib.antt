@@ -5,3 +5,6 @@ pub mod Words
 pub mod First
 pub mod FirstValues
 pub mod FirstMemory
+pub mod FirstLane
+pub mod FirstWarp
+pub mod FirstCode

@@ -3,4 +3,6 @@
 //! Read first `tree` for the form of such a kernel, then `specs/FirstText.antt` for the texts that spell one, and
 //! `specs/First.antt` for what a work-item does.
 
+pub mod code;
 pub mod tree;
+pub mod warp;

@@ -1,0 +1,3 @@
+pub mod FirstElements
+pub mod FirstCarries
+pub mod FirstTogether
