@@ -1,3 +1,5 @@
 pub mod FirstElements
 pub mod FirstCarries
 pub mod FirstTogether
+pub mod FirstEmit
+pub mod FirstCorrect
