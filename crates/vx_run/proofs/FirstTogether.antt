@@ -111,7 +111,7 @@ picked_is : (n : ℕ) (P : ℕ → Alone → Type 0) (other : Alone) (each : (la
 picked_is n P other each lane (inl below) is_lane = (each lane below).1
 picked_is n P other each lane (inr above) is_lane = absurd (omega arith)
 
-chosen : (n : ℕ) (P : ℕ → Alone → Type 0) → Alone → ((lane : ℕ) → lane < n → (m : Alone) × P lane m) →
+pub chosen : (n : ℕ) (P : ℕ → Alone → Type 0) → Alone → ((lane : ℕ) → lane < n → (m : Alone) × P lane m) →
     (f : ℕ → Alone) × ((lane : ℕ) → lane < n → P lane (f lane))
 chosen n P other each =
     (λ lane. picked n P other each lane (cases_lt lane n), λ lane below. picked_is n P other each lane (cases_lt lane n) below)

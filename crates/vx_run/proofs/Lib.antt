@@ -3,3 +3,4 @@ pub mod FirstCarries
 pub mod FirstTogether
 pub mod FirstEmit
 pub mod FirstCorrect
+pub mod FirstRuns

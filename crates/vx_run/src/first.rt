@@ -4,5 +4,6 @@
 //! `specs/First.antt` for what a work-item does.
 
 pub mod code;
+pub mod run;
 pub mod tree;
 pub mod warp;
