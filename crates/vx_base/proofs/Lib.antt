@@ -1,3 +1,5 @@
 pub mod NumberLaws
 pub mod FieldLaws
 pub mod MaskLaws
+pub mod ValueLaws
+pub mod WorkedValues

@@ -8,9 +8,9 @@ use Rattle.vx_base.specs.Masks.{IsLeastBit}
 
 -- a bit that is set is 1
 pub bit_of_set : (n k : ℕ) → IsBitSet n k → bit_at n k ≡ 1
-bit_of_set n k set =
+bit_of_set n k is_set =
     elim (cases_eq (bit_at n k) 0) [
-      | inl zero_bit ↦ absurd (set (and_pow n k ∙ ap (λ (b : ℕ). b * 2 ^ k) zero_bit ∙ omega arith))
+      | inl zero_bit ↦ absurd (is_set (and_pow n k ∙ ap (λ (b : ℕ). b * 2 ^ k) zero_bit ∙ omega arith))
       | inr not_zero ↦ omega (arith, bit_at-lt n k)
     ]
 
@@ -23,7 +23,7 @@ set_of_bit n k one = λ none.
 
 -- a bit that is 0 is not set
 pub unset_of_bit : (n k : ℕ) → bit_at n k ≡ 0 → ¬ IsBitSet n k
-unset_of_bit n k none = λ set. let one : bit_at n k ≡ 1 = bit_of_set n k set in omega arith
+unset_of_bit n k none = λ is_set. let one : bit_at n k ≡ 1 = bit_of_set n k is_set in omega arith
 
 -- a bit that is not set is 0
 pub bit_of_unset : (n k : ℕ) → ¬ IsBitSet n k → bit_at n k ≡ 0
@@ -34,8 +34,8 @@ bit_of_unset n k unset =
     ]
 
 -- a mask of so many ones has the bits below
-pub ones-bits : (mask lanes k : ℕ) → mask + 1 ≡ 2 ^ lanes → IsBitSet mask k ↔ (k < lanes)
-ones-bits mask lanes k ones =
+pub bits_of_ones : (mask lanes k : ℕ) → mask + 1 ≡ 2 ^ lanes → IsBitSet mask k ↔ (k < lanes)
+bits_of_ones mask lanes k ones =
     let form : mask ≡ 2 ^ lanes - 1 = omega arith in (
       λ is_set. elim (cases_lt k lanes) [
         | inl below ↦ below

@@ -1,5 +1,5 @@
 -- What the operations on 32-bit words compute. A word is a number below 2 ^ 32.
-use Rattle.std.specs.Prelude.{ℕ, ◌+◌, ◌-◌, ◌*◌, ◌/◌, ◌%◌, ◌^◌, ◌==◌, nat_lt, if◌then◌else◌, ℤ, pos, negsuc, ◌-ℤ◌, ◌*ℤ◌, int_lt, int_div, int_rem, bit_and, bit_or, bit_xor}
+use Rattle.std.specs.Prelude.{ℕ, List, codes, ◌+◌, ◌-◌, ◌*◌, ◌/◌, ◌%◌, ◌^◌, ◌==◌, nat_lt, if◌then◌else◌, ℤ, pos, negsuc, ◌-ℤ◌, ◌*ℤ◌, int_lt, int_div, int_rem, bit_and, bit_or, bit_xor}
 use Rattle.vx_base.specs.declared.types.Alu.{Alu}
 use Rattle.vx_base.specs.declared.types.Alu.TheVariants.{Add, Sub, Sll, Slt, Sltu, Xor, Srl, Sra, Or, And, Mul, Mulh, Mulhsu, Mulhu, Div, Divu, Rem, Remu}
 use Rattle.vx_base.specs.declared.types.Elem.{Elem}
@@ -47,6 +47,15 @@ alu_value_of Div a b = if b == 0 then all_ones else word_of (int_div (signed_of 
 alu_value_of Divu a b = if b == 0 then all_ones else a / b
 alu_value_of Rem a b = if b == 0 then a else word_of (int_rem (signed_of a) (signed_of b))
 alu_value_of Remu a b = if b == 0 then a else a % b
+
+-- how a type of elements is written (OpenCL C 1.2, section 6.1.1)
+abbrev pub elem_name : Elem → List ℕ
+elem_name Char = codes "char"
+elem_name Uchar = codes "uchar"
+elem_name Short = codes "short"
+elem_name Ushort = codes "ushort"
+elem_name Int = codes "int"
+elem_name Uint = codes "uint"
 
 -- how many bytes an element has
 abbrev pub elem_bytes : Elem → ℕ

@@ -2,6 +2,16 @@
 //! words with RISC-V's arithmetic, lane masks, and little-endian fields in bytes.
 //!
 //! Read first `types` for the vocabulary, then `specs/Values.antt` for what each operation computes.
+//!
+//! - `types`: the enums and structs that the other layers name, and `lists`, the lists of them that stay plain data in
+//!   contracts.
+//! - `values`: what an operation makes of two words ([`alu_value`]), and a word cut to an element's type ([`fit`]).
+//! - `masks`: sets of up to 32 lanes as the bits of a word ([`lanes_mask`], [`least`]).
+//! - `bytes`: numbers of one, two or four bytes in memory ([`get_le`], [`put_le`]), defined in `specs/Bytes.antt`.
+//!
+//! `proofs/` has the laws that proofs of the layers above cite: `NumberLaws` on numbers and their bytes, `FieldLaws` on
+//! what a write changes and leaves, `MaskLaws` on bits, and `ValueLaws` on ranges and on words read as signed.
+//! `WorkedValues` computes the definitions at the corners that the manual names.
 #![tactic(auto)]
 
 pub mod bytes;

@@ -4,6 +4,7 @@ ghost use Rattle.std.specs.Int.{IsBitSet};
 ghost use Rattle.vx_base.specs.Masks.{IsLeastBit};
 
 /// The set of the lanes below `lanes`, of which there are 1 to 32.
+#[tactic(auto, using(crate::proofs::MaskLaws::ones_of_shift, crate::proofs::MaskLaws::bits_of_ones))]
 pub fn lanes_mask(lanes: u32) -> u32
     requires some { 1 ≤ lanes }
     requires word { lanes ≤ 32 }
@@ -22,5 +23,20 @@ pub fn least(mask: u32) -> Option<u32>
         None
     } else {
         Some(mask.trailing_zeros())
+    }
+}
+
+#[cfg(test)]
+mod tests {
+    use super::*;
+
+    #[test]
+    fn masks_lanes_and_finds_the_least(rt: HostRuntime) {
+        assert_eq!(rt; lanes_mask(1), 1);
+        assert_eq!(rt; lanes_mask(4), 0b1111);
+        assert_eq!(rt; lanes_mask(32), 0xffff_ffff);
+        assert_eq!(rt; least(0), None);
+        assert_eq!(rt; least(0b1100), Some(2));
+        assert_eq!(rt; least(0x8000_0000), Some(31));
     }
 }

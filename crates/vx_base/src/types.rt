@@ -1,3 +1,6 @@
+ghost use Rattle.std.specs.Prelude.{Some};
+ghost use Rattle.vx_base.specs.Values.{elem_name};
+
 use std::fmt;
 
 /// Memory ran out. What a call leaves then is said at that call.
@@ -110,6 +113,8 @@ pub enum ParamKind {
 }
 
 impl fmt::Display for Elem {
+    ghost output = { λ elem. Some (elem_name elem) };
+
     fn fmt<W: fmt::Write>(&self, f: &mut fmt::Formatter<W>) -> fmt::Result {
         f.write_str(match self {
             Elem::Char => "char",

@@ -34,12 +34,12 @@ pub fn alu_value(op: Alu, a: u32, b: u32) -> u32
         Alu::Or => a | b,
         Alu::And => a & b,
         Alu::Mul => a.wrapping_mul(b),
-        Alu::Mulh => high_signed(a, b),
-        Alu::Mulhsu => high_mixed(a, b),
-        Alu::Mulhu => high_unsigned(a, b),
-        Alu::Div => divide_signed(a, b),
+        Alu::Mulh => signed_high_word(a, b),
+        Alu::Mulhsu => mixed_high_word(a, b),
+        Alu::Mulhu => unsigned_high_word(a, b),
+        Alu::Div => signed_quotient(a, b),
         Alu::Divu => a.checked_div(b).unwrap_or(u32::MAX),
-        Alu::Rem => remainder_signed(a, b),
+        Alu::Rem => signed_remainder(a, b),
         Alu::Remu => a.checked_rem(b).unwrap_or(a),
     }
 }
@@ -52,28 +52,28 @@ fn high_word(product: i64) -> u32
 }
 
 /// The high word of the product of two signed numbers.
-fn high_signed(a: u32, b: u32) -> u32
+fn signed_high_word(a: u32, b: u32) -> u32
     ensures { result ≡ alu_value_of Alu.Mulh a b }
 {
     high_word(i64::from(a.cast_signed()) * i64::from(b.cast_signed()))
 }
 
 /// The high word of the product of a signed and an unsigned number.
-fn high_mixed(a: u32, b: u32) -> u32
+fn mixed_high_word(a: u32, b: u32) -> u32
     ensures { result ≡ alu_value_of Alu.Mulhsu a b }
 {
     high_word(i64::from(a.cast_signed()) * i64::from(b))
 }
 
 /// The high word of the product of two unsigned numbers.
-fn high_unsigned(a: u32, b: u32) -> u32
+fn unsigned_high_word(a: u32, b: u32) -> u32
     ensures { result ≡ alu_value_of Alu.Mulhu a b }
 {
     ((u64::from(a) * u64::from(b)) >> 32) as u32
 }
 
 /// The signed quotient toward zero, and all ones where the divisor is 0.
-fn divide_signed(a: u32, b: u32) -> u32
+fn signed_quotient(a: u32, b: u32) -> u32
     ensures { result ≡ alu_value_of Alu.Div a b }
 {
     if b == 0 {
@@ -85,7 +85,7 @@ fn divide_signed(a: u32, b: u32) -> u32
 }
 
 /// The signed remainder, with the sign of the dividend, and the dividend where the divisor is 0.
-fn remainder_signed(a: u32, b: u32) -> u32
+fn signed_remainder(a: u32, b: u32) -> u32
     ensures { result ≡ alu_value_of Alu.Rem a b }
 {
     if b == 0 {
@@ -121,4 +121,59 @@ fn extend_half(v: u32) -> u32
     ensures { result ≡ fitted Elem.Short v }
 {
     i32::from(((v & 0xffff) as u16).cast_signed()).cast_unsigned()
+}
+
+#[cfg(test)]
+mod tests {
+    use super::*;
+
+    // The rules of the manual, worked by hand; 0xffff_fff9 is -7.
+    #[test]
+    fn computes_each_operation(rt: HostRuntime) {
+        for (op, a, b, want) in [
+            (Alu::Add, 0xffff_ffff, 2, 1),
+            (Alu::Sub, 3, 5, 0xffff_fffe),
+            (Alu::Sll, 1, 33, 2),
+            (Alu::Slt, 0xffff_ffff, 1, 1),
+            (Alu::Sltu, 0xffff_ffff, 1, 0),
+            (Alu::Xor, 0b1100, 0b1010, 0b0110),
+            (Alu::Srl, 0x8000_0000, 4, 0x0800_0000),
+            (Alu::Sra, 0x8000_0000, 4, 0xf800_0000),
+            (Alu::Or, 0b1100, 0b1010, 0b1110),
+            (Alu::And, 0b1100, 0b1010, 0b1000),
+            (Alu::Mul, 0x0001_0001, 0x0001_0001, 0x0002_0001),
+            (Alu::Mulh, 0x8000_0000, 0x8000_0000, 0x4000_0000),
+            (Alu::Mulh, 0xffff_ffff, 0xffff_ffff, 0),
+            (Alu::Mulhsu, 0xffff_ffff, 0xffff_ffff, 0xffff_ffff),
+            (Alu::Mulhu, 0xffff_ffff, 0xffff_ffff, 0xffff_fffe),
+            (Alu::Div, 0xffff_fff9, 2, 0xffff_fffd),
+            (Alu::Div, 7, 0, 0xffff_ffff),
+            (Alu::Div, 0x8000_0000, 0xffff_ffff, 0x8000_0000),
+            (Alu::Divu, 0xffff_fff9, 2, 0x7fff_fffc),
+            (Alu::Divu, 7, 0, 0xffff_ffff),
+            (Alu::Rem, 0xffff_fff9, 2, 0xffff_ffff),
+            (Alu::Rem, 0xffff_fff9, 0, 0xffff_fff9),
+            (Alu::Rem, 0x8000_0000, 0xffff_ffff, 0),
+            (Alu::Remu, 0xffff_fff9, 2, 1),
+            (Alu::Remu, 7, 0, 7),
+        ] {
+            assert_eq!(rt; alu_value(op, a, b), want, "{op:?} of {a:#x} and {b:#x}");
+        }
+    }
+
+    #[test]
+    fn fits_each_element(rt: HostRuntime) {
+        for (elem, v, want, size) in [
+            (Elem::Char, 0xff, 0xffff_ffff, Size::One),
+            (Elem::Char, 0x17f, 0x7f, Size::One),
+            (Elem::Uchar, 300, 44, Size::One),
+            (Elem::Short, 0x8000, 0xffff_8000, Size::Two),
+            (Elem::Ushort, 0x0001_8000, 0x8000, Size::Two),
+            (Elem::Int, 0x8000_0000, 0x8000_0000, Size::Four),
+            (Elem::Uint, 0xffff_ffff, 0xffff_ffff, Size::Four),
+        ] {
+            assert_eq!(rt; fit(elem, v), want, "{v:#x} as {elem}");
+            assert_eq!(rt; elem.size(), size, "{elem}");
+        }
+    }
 }
