@@ -122,7 +122,10 @@ pub enum Instr {
 #[derive(Clone, Copy, Debug, PartialEq, Eq)]
 pub enum LaneEffect {
     /// The register gets the value.
-    Write { rd: u32, value: u32 },
+    Write {
+        rd: u32,
+        value: u32,
+    },
     /// The register gets the field at the address, extended to 32 bits by its sign or by zeros.
     Load {
         rd: u32,
@@ -137,11 +140,21 @@ pub enum LaneEffect {
         value: u32,
     },
     /// The lane goes to the target where the branch is taken, and else on.
-    Branch { taken: bool, target: u32 },
+    Branch {
+        taken: bool,
+        target: u32,
+    },
     /// The register gets the link, and the lane goes to the target.
-    Jump { rd: u32, link: u32, target: u32 },
+    Jump {
+        rd: u32,
+        link: u32,
+        target: u32,
+    },
     /// The register gets a number of the lane, its warp or its core.
-    Csr { rd: u32, csr: u32 },
+    Csr {
+        rd: u32,
+        csr: u32,
+    },
     /// The lane stops at a failed check.
     Break,
     /// The whole warp acts.

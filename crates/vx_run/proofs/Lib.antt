@@ -28,3 +28,9 @@ pub mod FirstSums
 pub mod FirstSumsAgain
 pub mod FirstKernels
 pub mod FirstTexts
+pub mod FirstElements
+pub mod FirstCarries
+pub mod FirstTogether
+pub mod FirstEmit
+pub mod FirstCorrect
+pub mod FirstRuns

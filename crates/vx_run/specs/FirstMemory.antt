@@ -17,4 +17,4 @@ element_at memory items item buffer = field_of memory (buffer * stride items + 4
 pub record HasRun (k : Form) (arguments : List ℕ) (items buffers : ℕ) (before after : List ℕ) : Type 0 where
   pub same_length : length after ≡ length before
   pub elements : (buffer item : ℕ) → buffer < buffers → item < items →
-    element_at after items item buffer ≡ words_after (array_of arguments) item k.assignments (element_at before items item) buffer
+      element_at after items item buffer ≡ words_after (array_of arguments) item k.assignments (element_at before items item) buffer

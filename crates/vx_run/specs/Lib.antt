@@ -14,3 +14,6 @@ pub mod Output
 pub mod Answers
 pub mod Stages
 pub mod Layout
+pub mod FirstLane
+pub mod FirstWarp
+pub mod FirstCode

@@ -9,3 +9,6 @@ pub mod parser;
 pub mod tree;
 pub mod unread;
 pub mod words;
+pub mod code;
+pub mod run;
+pub mod warp;
