@@ -14,6 +14,8 @@ use Rattle.vx_isa.specs.Effects.{address_at}
 use Rattle.vx_run.specs.declared.first.tree.Operator.{Operator}
 use Rattle.vx_run.specs.declared.first.tree.Operator.TheVariants.{Add, Subtract, Multiply}
 use Rattle.vx_run.specs.FirstTree.{Tree, Literal, OwnId, OwnElement, Grouped, Applied, Assigns, Form, height}
+use Rattle.vx_base.proofs.ValueLaws.{word_of-lt}
+use Rattle.std.specs.Prelude.{pos, ◌-ℤ◌}
 use Rattle.vx_run.specs.First.{operated, array_of}
 use Rattle.vx_run.specs.FirstValues.{value_of, words_after, IsSumOf, IsAssignmentOf, IsLaunchable}
 use Rattle.vx_run.specs.FirstMemory.{stride}
@@ -39,7 +41,7 @@ difference a b small small' = grind (arith, ints)
 
 operated-lt : (op : Operator) (a b : ℕ) → operated op a b < 2 ^ 32
 operated-lt Add a b = omega arith
-operated-lt Subtract a b = omega arith
+operated-lt Subtract a b = word_of-lt (pos a -ℤ pos b)
 operated-lt Multiply a b = omega arith
 
 -- lui and addi make a number of its parts

@@ -34,3 +34,5 @@ pub mod FirstTogether
 pub mod FirstEmit
 pub mod FirstCorrect
 pub mod FirstRuns
+pub mod LaunchLaws
+pub mod OneOutcome

@@ -47,7 +47,7 @@ module _ (held : Option (List Entry)) (c : RunWords) (k : Form) (index : ℕ) (m
   -- what stops the read of its file stops the call
   pub unread_stops : (name : List ℕ) (path : List ℕ) (s : Stop) → StopsReading held path s → StopsAt (from_buffer name (File path)) s
   unread_stops name path (stop.Refused (Missing missing)) h =
-    subst (λ m. from_buffer name (File path) (Refuses (Missing m))) (sym h.0) (NoBufferFile index contents name path more h.1)
+    subst (λ m. from_buffer name (File path) (Refuses (Missing m))) (sym h.0) (NoBufferFile index contents (record { name = name; from = File path }) more path refl h.1)
   unread_stops name path (stop.Refused (ReadFault faults)) h = h
   unread_stops name path (stop.Refused other) h = absurd h
   unread_stops name path stop.Memory h = tt

@@ -1,4 +1,4 @@
-use Rattle.std.specs.Prelude.{◌≡◌, ◌≢◌, ℕ, suc, ◌+◌, ◌*◌, min, Option, Some, None, List, [], ◌∷◌, ◌++◌, length, replicate, slice_get, slice_index, slice_index_or, codes}
+use Rattle.std.specs.Prelude.{◌≡◌, ◌≢◌, ℕ, suc, ◌+◌, ◌*◌, min, Option, Some, None, List, [], ◌∷◌, ◌++◌, length, replicate, slice_index, slice_index_or}
 use Rattle.vx_base.specs.declared.types.Pos.{Pos}
 use Rattle.item_acts.specs.Tame.{LaunchLeaves}
 use Rattle.vx_world.specs.declared.reading.Entry.{Entry}
@@ -14,6 +14,7 @@ use Rattle.vx_run.specs.declared.report.BufferKind.TheVariants as buffer
 use Rattle.vx_run.specs.declared.report.Cause.{Cause}
 use Rattle.vx_run.specs.declared.report.Cause.TheVariants as cause
 use Rattle.vx_run.specs.Words.{IsRun}
+use Rattle.vx_run.specs.WordForms.{BeginsRun}
 use Rattle.vx_run.specs.FirstTree.{Form}
 use Rattle.vx_run.specs.First.{launch_of}
 use Rattle.vx_run.specs.FirstText.{IsKernelFile}
@@ -59,8 +60,8 @@ pub data FromArguments (c : RunWords) (k : Form) (contents : List (List ℕ)) : 
 -- int for each work-item.
 pub data FromBuffers (held : Option (List Entry)) (c : RunWords) (k : Form) : ℕ → List BufWord → List (List ℕ) → Outcome → Type 0 where
   NoBuffers : (index : ℕ) (contents : List (List ℕ)) (o : Outcome) → FromArguments c k contents o → FromBuffers held c k index [] contents o
-  NoBufferFile : (index : ℕ) (contents : List (List ℕ)) (name path : List ℕ) (more : List BufWord) → Holds held path None →
-    FromBuffers held c k index (record { name = name; from = File path } ∷ more) contents (Refuses (cause.Missing path))
+  NoBufferFile : (index : ℕ) (contents : List (List ℕ)) (b : BufWord) (more : List BufWord) (path : List ℕ) → b.from ≡ File path → Holds held path None →
+    FromBuffers held c k index (b ∷ more) contents (Refuses (cause.Missing path))
   WrongLength : (index : ℕ) (contents : List (List ℕ)) (b : BufWord) (more : List BufWord) (bytes : List ℕ) → Brings held b.from bytes →
     length bytes ≢ 4 * c.items →
     FromBuffers held c k index (b ∷ more) contents (Refuses (cause.Buffer index (buffer.Length (counted_bytes b.from bytes (4 * c.items)) 4)))
@@ -82,13 +83,9 @@ pub data FromFile (held : Option (List Entry)) (c : RunWords) : Outcome → Type
   NoFile : Holds held c.file None → FromFile held c (Refuses (cause.Missing c.file))
   HasFile : (bytes : List ℕ) (o : Outcome) → Holds held c.file (Some bytes) → FromSource held c bytes o → FromFile held c o
 
--- the first word is the command
-abbrev pub IsCommand : List (List ℕ) → Type 0
-IsCommand words = slice_get words 0 ≡ Some (codes "run")
-
 -- What a call with these words over these files comes to, where no read fails: first by its words, then by the kernel's
 -- file, its text, the entry, the buffers in order, the arguments, and the run.
 pub data FromWords (held : Option (List Entry)) (words : List (List ℕ)) : Outcome → Type 0 where
-  NoCommand : (¬ (IsCommand words)) → FromWords held words (Refuses (cause.Usage 0 usage.Command))
-  NoForm : IsCommand words → ((c : RunWords) → IsRun words c → ⊥) → FromWords held words (Refuses (cause.Usage 0 usage.Form))
+  NoCommand : (¬ (BeginsRun words)) → FromWords held words (Refuses (cause.Usage 0 usage.Command))
+  NoForm : BeginsRun words → ((c : RunWords) → IsRun words c → ⊥) → FromWords held words (Refuses (cause.Usage 0 usage.Form))
   HasForm : (c : RunWords) (o : Outcome) → IsRun words c → FromFile held c o → FromWords held words o

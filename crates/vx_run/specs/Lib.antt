@@ -14,6 +14,7 @@ pub mod Output
 pub mod Answers
 pub mod Stages
 pub mod Layout
+pub mod Meets
 pub mod FirstLane
 pub mod FirstWarp
 pub mod FirstCode

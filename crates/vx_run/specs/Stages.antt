@@ -1,11 +1,16 @@
-use Rattle.std.specs.Prelude.{◌≡◌, ℕ, ◌*◌, ◌<◌, ◌≤◌, take, Some, None, List, Option, Result, Ok, Err, length, slice_index}
+use Rattle.std.specs.Prelude.{◌≡◌, ℕ, ◌*◌, ◌<◌, ◌≤◌, take, Some, None, List, Option, Result, Ok, Err, length, slice_index, All}
 use Rattle.vx_world.specs.Counts.{Rose}
 use Rattle.vx_run.specs.declared.report.Cause.TheVariants as cause
 use Rattle.vx_run.specs.declared.report.Cause.{Cause}
 use Rattle.vx_run.specs.declared.stages.Stop.{Stop}
 use Rattle.vx_run.specs.declared.stages.Stop.TheVariants.{Refused, Memory}
 use Rattle.vx_world.specs.declared.reading.Entry.{Entry}
-use Rattle.vx_run.specs.Answers.{Outcome, Refuses, Prints, Holds}
+use Rattle.vx_run.specs.declared.words.RunWords.{RunWords}
+use Rattle.vx_run.specs.declared.report.SourceKind.TheVariants as source
+use Rattle.vx_run.specs.FirstText.{IsKernelFile}
+use Rattle.vx_run.specs.FirstTree.{Form}
+use Rattle.vx_run.specs.Words.{IsOrigin}
+use Rattle.vx_run.specs.Answers.{Outcome, Refuses, Prints, Holds, first_place}
 
 -- a refusal is one that the call may come to; a read fault is one read that failed
 abbrev pub IsRefusal : (Outcome → Type 0) → Cause → Type 0
@@ -48,10 +53,6 @@ abbrev pub StageMisses : {X : Type 0} → Result X Stop → ℕ → ℕ → Type
 StageMisses (Ok value) before now = now ≡ before
 StageMisses (Err stop) before now = StopMisses stop before now
 
--- the elements of a list of bytes
-abbrev pub AreBytes : List ℕ → Type 0
-AreBytes bytes = (k : ℕ) → slice_index bytes k < 256
-
 -- these are the first bytes of the file of a name, at most so many
 pub record ReadsFront (held : Option (List Entry)) (name : List ℕ) (most : ℕ) (bytes : List ℕ) : Type 0 where
   pub whole : List ℕ
@@ -70,3 +71,18 @@ abbrev pub IsMissingOf : List ℕ → Stop → Type 0
 IsMissingOf name (Refused (cause.Missing missing)) = missing ≡ name
 IsMissingOf name (Refused c) = ⊥
 IsMissingOf name Memory = Unit {0}
+
+-- what the words of `run` are known to be, once they are read
+pub record IsRunnable (c : RunWords) : Type 0 where
+  pub arguments : All (λ b. b < length c.buffers) c.arguments
+  pub shows : All (λ b. b < length c.buffers) c.shows
+  pub origins : All (λ b. IsOrigin b.from) c.buffers
+  pub few_buffers : length c.buffers ≤ 16
+  pub items_some : 1 ≤ c.items
+  pub items_few : c.items ≤ 32
+
+-- a refusal because these bytes are no file of a kernel, or want of memory
+abbrev pub IsNoKernel : List ℕ → Stop → Type 0
+IsNoKernel bytes (Refused (cause.Source pos kind)) = (pos ≡ first_place) × (kind ≡ source.Subset) × ((k : Form) → IsKernelFile bytes k → ⊥)
+IsNoKernel bytes (Refused c) = ⊥
+IsNoKernel bytes Memory = Unit {0}

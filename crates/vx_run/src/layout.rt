@@ -9,15 +9,9 @@ use std::alloc::Global;
 
 use vx_base::{Memory, Size, Text, get_le};
 
+use crate::first::code::stride;
 use crate::output::push_buffer;
 use crate::words::BufWord;
-
-fn stride(items: u32) -> u32
-    requires { items ≤ 32 }
-    ensures { result ≡ stride items }
-{
-    (4 * items).next_multiple_of(64)
-}
 
 // Appends a buffer, and zeros behind it.
 fn push_padded(memory: &mut Vec<u8>, bytes: &[u8], gap: usize) -> Result<(), Memory>

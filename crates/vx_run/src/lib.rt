@@ -4,14 +4,16 @@
 //! it runs, and `vx` for the call itself.
 #![tactic(auto)]
 
-pub mod first;
-pub mod numbers;
-pub mod words;
-pub mod layout;
-pub mod loading;
-pub mod reading;
-pub mod stages;
+pub mod answer;
 pub mod deliver;
-pub mod output;
-pub mod report;
+pub mod first;
+pub mod launch;
+pub mod layout;
 pub mod lines;
+pub mod loading;
+pub mod numbers;
+pub mod output;
+pub mod reading;
+pub mod report;
+pub mod stages;
+pub mod words;

@@ -1,0 +1,148 @@
+-- A call whose files tell what they have comes to one refusal at most, or only to texts that it prints.
+use Rattle.std.proofs.Common.{◌≡◌, ◌≢◌, ℕ, suc, ◌*◌, List, [], ◌∷◌, ◌++◌, length, Some, refl, ap, sym, ◌∙◌, subst, arith, codes, map}
+use Rattle.std.specs.Prelude.{Option, None}
+use Rattle.vx_world.specs.declared.reading.Entry.{Entry}
+use Rattle.vx_world.specs.Reading.{bytes_named}
+use Rattle.vx_run.specs.declared.report.BufferKind.TheVariants as buffer
+use Rattle.vx_run.specs.declared.report.Cause.{Cause}
+use Rattle.vx_run.specs.declared.report.Cause.TheVariants as cause
+use Rattle.vx_run.specs.declared.words.BufFrom.{BufFrom}
+use Rattle.vx_run.specs.declared.words.BufFrom.TheVariants.{File, Zero}
+use Rattle.vx_run.specs.declared.words.BufWord.{BufWord}
+use Rattle.vx_run.specs.declared.words.RunWords.{RunWords}
+use Rattle.vx_run.specs.declared.words.UsageKind.{UsageKind}
+use Rattle.vx_run.specs.FirstText.{IsKernelFile}
+use Rattle.vx_run.specs.FirstReading.{form_of_text}
+use Rattle.vx_run.specs.FirstTree.{Form}
+use Rattle.vx_run.specs.Words.{IsRun}
+use Rattle.vx_run.specs.WordForms.{BeginsRun}
+use Rattle.vx_run.specs.Answers.{Outcome, Refuses, Prints, Brings, counted_bytes, FromArguments, WrongArguments, Runs, FromBuffers, NoBuffers, NoBufferFile, WrongLength, NextBuffer, FromEntry, NoEntry, HasEntry, FromSource, NoKernel, HasKernel, FromFile, NoFile, HasFile, FromWords, NoCommand, NoForm, HasForm}
+use Rattle.vx_run.proofs.FirstTexts.{text_again}
+use Rattle.vx_run.proofs.RunMeaning.{IsRun-same}
+
+-- two outcomes are one refusal, or both print
+abbrev pub Agree : Outcome → Outcome → Type 0
+Agree (Refuses c) (Refuses d) = c ≡ d
+Agree (Refuses c) (Prints text) = ⊥
+Agree (Prints text) (Refuses c) = ⊥
+Agree (Prints text) (Prints other) = Unit {0}
+
+some_same : {X : Type 0} (o : Option X) (x y : X) → o ≡ Some x → o ≡ Some y → x ≡ y
+some_same o x y e f = cc
+
+some_none : {X : Type 0} (o : Option X) (x : X) → o ≡ Some x → o ≡ None → ⊥
+some_none o x e f = cc
+
+-- the first word of words that are read is the command
+begins : (words : List (List ℕ)) (c : RunWords) → IsRun words c → BeginsRun words
+begins words c h = subst BeginsRun (sym h.spelled) refl
+
+-- a text is of one kernel
+one_kernel : (bytes : List ℕ) (k l : Form) → IsKernelFile bytes k → IsKernelFile bytes l → k ≡ l
+one_kernel bytes k l h h' = some_same (form_of_text bytes) k l (text_again bytes k h.text) (text_again bytes l h'.text)
+
+module _ (entries : List Entry) where
+  abbrev told : Option (List Entry)
+  told = Some entries
+
+  -- a buffer's bytes are one list
+  one_content : (from : BufFrom) (bytes other : List ℕ) → Brings told from bytes → Brings told from other → bytes ≡ other
+  one_content (File path) bytes other h h' = some_same (bytes_named entries path) bytes other h h'
+  one_content (Zero count) bytes other h h' = h ∙ sym h'
+
+  -- a file that is not there brings nothing
+  brings_none : (from : BufFrom) (path bytes : List ℕ) → from ≡ File path → bytes_named entries path ≡ None → Brings told from bytes → ⊥
+  brings_none from path bytes e none h =
+    let there : Brings told (File path) bytes = subst (λ f. Brings told f bytes) e h in
+    some_none (bytes_named entries path) bytes there none
+
+  one_path : (from : BufFrom) (path other : List ℕ) → from ≡ File path → from ≡ File other → path ≡ other
+  one_path from path other e f = cc
+
+  one_arguments : (c : RunWords) (k : Form) (contents : List (List ℕ)) (o p : Outcome) → FromArguments c k contents o → FromArguments c k contents p → Agree o p
+  one_arguments c k contents o p (WrongArguments other) (WrongArguments other') = refl
+  one_arguments c k contents o p (WrongArguments other) (Runs same left leaves) = absurd (other same)
+  one_arguments c k contents o p (Runs same left leaves) (WrongArguments other) = absurd (other same)
+  one_arguments c k contents o p (Runs same left leaves) (Runs same' left' leaves') = tt
+
+  one_buffers : (c : RunWords) (k : Form) (index : ℕ) (bs : List BufWord) (contents : List (List ℕ)) (o p : Outcome) →
+    FromBuffers told c k index bs contents o → FromBuffers told c k index bs contents p → Agree o p
+  one_buffers c k index [] contents o p (NoBuffers i cs q h) (NoBuffers i' cs' q' h') = one_arguments c k contents o p h h'
+  one_buffers c k index (b ∷ more) contents o p (NoBufferFile i cs b' more' path e none) (NoBufferFile i' cs' b'' more'' path' e' none') =
+    ap cause.Missing (one_path b.from path path' e e')
+  one_buffers c k index (b ∷ more) contents o p (NoBufferFile i cs b' more' path e none) (WrongLength i' cs' b'' more'' bytes brings other) =
+    absurd (brings_none b.from path bytes e none brings)
+  one_buffers c k index (b ∷ more) contents o p (NoBufferFile i cs b' more' path e none) (NextBuffer i' cs' b'' more'' bytes q brings whole rest) =
+    absurd (brings_none b.from path bytes e none brings)
+  one_buffers c k index (b ∷ more) contents o p (WrongLength i cs b' more' bytes brings other) (NoBufferFile i' cs' b'' more'' path e none) =
+    absurd (brings_none b.from path bytes e none brings)
+  one_buffers c k index (b ∷ more) contents o p (WrongLength i cs b' more' bytes brings other) (WrongLength i' cs' b'' more'' bytes' brings' other') =
+    ap (λ x. cause.Buffer index (buffer.Length (counted_bytes b.from x (4 * c.items)) 4)) (one_content b.from bytes bytes' brings brings')
+  one_buffers c k index (b ∷ more) contents o p (WrongLength i cs b' more' bytes brings other) (NextBuffer i' cs' b'' more'' bytes' q brings' whole rest) =
+    absurd (other (ap length (one_content b.from bytes bytes' brings brings') ∙ whole))
+  one_buffers c k index (b ∷ more) contents o p (NextBuffer i cs b' more' bytes q brings whole rest) (NoBufferFile i' cs' b'' more'' path e none) =
+    absurd (brings_none b.from path bytes e none brings)
+  one_buffers c k index (b ∷ more) contents o p (NextBuffer i cs b' more' bytes q brings whole rest) (WrongLength i' cs' b'' more'' bytes' brings' other) =
+    absurd (other (ap length (one_content b.from bytes' bytes brings' brings) ∙ whole))
+  one_buffers c k index (b ∷ more) contents o p (NextBuffer i cs b' more' bytes q brings whole rest) (NextBuffer i' cs' b'' more'' bytes' q' brings' whole' rest') =
+    one_buffers c k (suc index) more (contents ++ bytes ∷ []) o p rest
+      (subst (λ x. FromBuffers told c k (suc index) more (contents ++ x ∷ []) p) (one_content b.from bytes' bytes brings' brings) rest')
+
+  one_entry : (c : RunWords) (k : Form) (o p : Outcome) → FromEntry told c k o → FromEntry told c k p → Agree o p
+  one_entry c k o p (NoEntry other) (NoEntry other') = refl
+  one_entry c k o p (NoEntry other) (HasEntry q same h) = absurd (other same)
+  one_entry c k o p (HasEntry q same h) (NoEntry other) = absurd (other same)
+  one_entry c k o p (HasEntry q same h) (HasEntry q' same' h') = one_buffers c k 0 c.buffers [] o p h h'
+
+  one_source : (c : RunWords) (bytes : List ℕ) (o p : Outcome) → FromSource told c bytes o → FromSource told c bytes p → Agree o p
+  one_source c bytes o p (NoKernel none) (NoKernel none') = refl
+  one_source c bytes o p (NoKernel none) (HasKernel k q is h) = absurd (none k is)
+  one_source c bytes o p (HasKernel k q is h) (NoKernel none) = absurd (none k is)
+  one_source c bytes o p (HasKernel k q is h) (HasKernel k' q' is' h') =
+    one_entry c k o p h (subst (λ f. FromEntry told c f p) (one_kernel bytes k' k is' is) h')
+
+  one_file : (c : RunWords) (o p : Outcome) → FromFile told c o → FromFile told c p → Agree o p
+  one_file c o p (NoFile none) (NoFile none') = refl
+  one_file c o p (NoFile none) (HasFile bytes q there h) = absurd (some_none (bytes_named entries c.file) bytes there none)
+  one_file c o p (HasFile bytes q there h) (NoFile none) = absurd (some_none (bytes_named entries c.file) bytes there none)
+  one_file c o p (HasFile bytes q there h) (HasFile bytes' q' there' h') =
+    one_source c bytes o p h (subst (λ x. FromSource told c x p) (some_same (bytes_named entries c.file) bytes' bytes there' there) h')
+
+  -- two outcomes of one call agree
+  pub one_outcome : (words : List (List ℕ)) (o p : Outcome) → FromWords told words o → FromWords told words p → Agree o p
+  one_outcome words o p (NoCommand other) (NoCommand other') = refl
+  one_outcome words o p (NoCommand other) (NoForm run none) = absurd (other run)
+  one_outcome words o p (NoCommand other) (HasForm c q is h) = absurd (other (begins words c is))
+  one_outcome words o p (NoForm run none) (NoCommand other) = absurd (other run)
+  one_outcome words o p (NoForm run none) (NoForm run' none') = refl
+  one_outcome words o p (NoForm run none) (HasForm c q is h) = absurd (none c is)
+  one_outcome words o p (HasForm c q is h) (NoCommand other) = absurd (other (begins words c is))
+  one_outcome words o p (HasForm c q is h) (NoForm run none) = absurd (none c is)
+  one_outcome words o p (HasForm c q is h) (HasForm c' q' is' h') =
+    one_file c o p h (subst (λ x. FromFile told x p) (IsRun-same words c' c is' is) h')
+
+-- no stage behind the words refuses them
+module _ (held : Option (List Entry)) (word : ℕ) (kind : UsageKind) where
+  no_usage_buffers : (c : RunWords) (k : Form) (index : ℕ) (bs : List BufWord) (contents : List (List ℕ)) → FromBuffers held c k index bs contents (Refuses (cause.Usage word kind)) → ⊥
+  no_usage_buffers c k index [] contents (NoBuffers i cs q h) = elim h [ ]
+  no_usage_buffers c k index (b ∷ more) contents (NextBuffer i cs b' more' bytes q brings whole rest) = no_usage_buffers c k (suc index) more (contents ++ bytes ∷ []) rest
+
+  no_usage_entry : (c : RunWords) (k : Form) → FromEntry held c k (Refuses (cause.Usage word kind)) → ⊥
+  no_usage_entry c k (HasEntry q same h) = no_usage_buffers c k 0 c.buffers [] h
+
+  no_usage_source : (c : RunWords) (bytes : List ℕ) → FromSource held c bytes (Refuses (cause.Usage word kind)) → ⊥
+  no_usage_source c bytes (HasKernel k q is h) = no_usage_entry c k h
+
+  no_usage_file : (c : RunWords) → FromFile held c (Refuses (cause.Usage word kind)) → ⊥
+  no_usage_file c (HasFile bytes q there h) = no_usage_source c bytes h
+
+-- refused words come to nothing else, whatever the files tell
+pub one_usage : (held : Option (List Entry)) (words : List (List ℕ)) (word : ℕ) (kind : UsageKind) (o : Outcome) → FromWords held words (Refuses (cause.Usage word kind)) → FromWords held words o →
+  Agree (Refuses (cause.Usage word kind)) o
+one_usage held words word kind o (NoCommand other) (NoCommand other') = refl
+one_usage held words word kind o (NoCommand other) (NoForm run none) = absurd (other run)
+one_usage held words word kind o (NoCommand other) (HasForm c q is h) = absurd (other (begins words c is))
+one_usage held words word kind o (NoForm run none) (NoCommand other) = absurd (other run)
+one_usage held words word kind o (NoForm run none) (NoForm run' none') = refl
+one_usage held words word kind o (NoForm run none) (HasForm c q is h) = absurd (none c is)
+one_usage held words word kind o (HasForm c q is h) h' = absurd (no_usage_file held word kind c h)

@@ -1,0 +1,97 @@
+use Rattle.std.specs.Prelude.{◌≡◌, ℕ, ◌+◌, ◌^◌, ◌<◌, ◌≤◌, Option, Some, None, ◌⊎◌, List, ◌++◌, length, take}
+use Rattle.vx_base.specs.declared.types.Pos.{Pos}
+use Rattle.vx_world.specs.Counts.{Rose}
+use Rattle.vx_world.specs.Writing.{Appends}
+use Rattle.vx_world.specs.declared.reading.Entry.{Entry}
+use Rattle.vx_run.specs.declared.words.UsageKind.{UsageKind}
+use Rattle.vx_run.specs.declared.report.SourceKind.{SourceKind}
+use Rattle.vx_run.specs.declared.report.LaunchKind.{LaunchKind}
+use Rattle.vx_run.specs.declared.report.BufferKind.{BufferKind}
+use Rattle.vx_run.specs.declared.report.Cause.{Cause}
+use Rattle.vx_run.specs.declared.report.Cause.TheVariants.{Done, Usage, Source, Launch, Buffer, Trap, Stuck, Turns, ReadFault, WriteFault, Memory, Missing}
+use Rattle.vx_run.specs.declared.report.Report.{Report}
+use Rattle.vx_run.specs.Answers.{Outcome, Refuses, Prints, FromWords}
+use Rattle.vx_run.specs.Lines.{line_of, status_of}
+
+-- The counts of the outside, and the bytes of the sink, where it tells them.
+pub record Outside : Type 0 where
+  pub read_faults : ℕ
+  pub misses : ℕ
+  pub write_faults : ℕ
+  pub written : Option (List ℕ)
+
+-- the files tell what they have
+abbrev pub IsTold : Option (List Entry) → Type 0
+IsTold None = ⊥
+IsTold (Some entries) = Unit {0}
+
+-- the call ends for this cause, or the sink failed or memory ran out before that
+abbrev pub EndsFor : Report → Cause → Type 0
+EndsFor report cause = (report.cause ≡ cause) ⊎ (((faults : ℕ) × (report.cause ≡ WriteFault faults)) ⊎ (report.cause ≡ Memory))
+
+-- the call ends for this cause, or one of its reads failed before that
+abbrev pub EndsUnread : Report → Cause → Type 0
+EndsUnread report cause = EndsFor report cause ⊎ ((faults : ℕ) × (report.cause ≡ ReadFault faults))
+
+-- the text of an answer that the call may come to: what it prints, or the line of its refusal
+pub data AnswerText (held : Option (List Entry)) (words : List (List ℕ)) : Cause → List ℕ → Type 0 where
+  PrintedText : (text : List ℕ) → FromWords held words (Prints text) → AnswerText held words Done text
+  RefusalLine : (cause : Cause) → FromWords held words (Refuses cause) → AnswerText held words cause (line_of cause)
+  FaultLine : AnswerText held words (ReadFault 1) (line_of (ReadFault 1))
+
+-- the text is written whole, or up to the fault that ended the call
+abbrev pub IsWrittenBy : Cause → ℕ → List ℕ → Cause → Type 0
+IsWrittenBy answered count text (WriteFault faults) = count ≤ length text
+IsWrittenBy answered count text Memory = count ≤ length text
+IsWrittenBy answered count text cause = (count ≡ length text) × (answered ≡ cause)
+
+-- What was written is the front of the text of an answer that the call may come to, and all of that of its own answer
+-- unless the sink failed or memory ran out.
+pub record IsPrefix (held : Option (List Entry)) (words : List (List ℕ)) (before now : Option (List ℕ)) (cause : Cause) : Type 0 where
+  pub answered : Cause
+  pub text : List ℕ
+  pub is : AnswerText held words answered text
+  pub count : ℕ
+  pub whole : IsWrittenBy answered count text cause
+  pub appends : Appends before now (take count text)
+
+-- the call is refused for this cause
+abbrev pub IsRefused : Option (List Entry) → List (List ℕ) → Cause → Type 0
+IsRefused held words cause = FromWords held words (Refuses cause)
+
+-- What a call of `vx` with these words meets, over files that hold this where they tell it, by the outside before and
+-- behind it.
+pub record VxMeets (held : Option (List Entry)) (words : List (List ℕ)) (before now : Outside) (report : Report) : Type 0 where
+  -- the status is that of the cause
+  pub status : report.status ≡ status_of report.cause
+
+  -- each refusal comes exactly where its row of the table of answers says
+  pub usage : (word : ℕ) (kind : UsageKind) → (report.cause ≡ Usage word kind → IsRefused held words (Usage word kind))
+    × (IsRefused held words (Usage word kind) → EndsFor report (Usage word kind))
+  pub source : (pos : Pos) (kind : SourceKind) → (report.cause ≡ Source pos kind → IsRefused held words (Source pos kind))
+    × (IsTold held → IsRefused held words (Source pos kind) → EndsUnread report (Source pos kind))
+  pub launch : (index : ℕ) (kind : LaunchKind) → (report.cause ≡ Launch index kind → IsRefused held words (Launch index kind))
+    × (IsTold held → IsRefused held words (Launch index kind) → EndsUnread report (Launch index kind))
+  pub buffer : (index : ℕ) (kind : BufferKind) → (report.cause ≡ Buffer index kind → IsRefused held words (Buffer index kind))
+    × (IsTold held → IsRefused held words (Buffer index kind) → EndsUnread report (Buffer index kind))
+  pub missing : (name : List ℕ) → (report.cause ≡ Missing name → IsRefused held words (Missing name) × Rose before.misses now.misses)
+    × (IsTold held → IsRefused held words (Missing name) → EndsUnread report (Missing name))
+
+  -- no launch of this form traps, is stuck or runs out of turns
+  pub trap : (launch : ℕ) (pos : Pos) (item : ℕ) → report.cause ≡ Trap launch pos item → ⊥
+  pub stuck : (launch core waiting ended : ℕ) → report.cause ≡ Stuck launch core waiting ended → ⊥
+  pub turns : (launch core group count : ℕ) → report.cause ≡ Turns launch core group count → ⊥
+
+  -- a fault of the outside is answered only where it was counted
+  pub read_fault : (faults : ℕ) → report.cause ≡ ReadFault faults → (faults ≡ 1) × Rose before.read_faults now.read_faults
+  pub write_fault : (faults : ℕ) → report.cause ≡ WriteFault faults → (faults ≡ 1) × Rose before.write_faults now.write_faults
+
+  -- what is written is always the front of a text, and mostly all of it
+  pub prefix : IsPrefix held words before.written now.written report.cause
+
+  -- with status 0 the printed buffers are those that the launch leaves, written whole
+  pub headline : report.cause ≡ Done → (text : List ℕ) × FromWords held words (Prints text) × Appends before.written now.written text
+
+  -- where a text is to be printed and no fault was counted, it is printed, unless memory ran out
+  pub complete : IsTold held → (text : List ℕ) → FromWords held words (Prints text) → (Rose before.read_faults now.read_faults → ⊥) →
+    (Rose before.write_faults now.write_faults → ⊥) → (report.cause ≡ Done) ⊎ (report.cause ≡ Memory)

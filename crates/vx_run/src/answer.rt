@@ -1,0 +1,122 @@
+//! What a call comes to, stage by stage in the order of its answers.
+
+ghost use Rattle.std.specs.Prelude.{◌≡◌, ◌*◌, All, length, map, string_bytes, IfOk, IfErr};
+ghost use Rattle.vx_run.specs.Answers.{first_place, FromArguments, FromEntry, FromFile, FromWords};
+ghost use Rattle.vx_run.specs.FirstText.{IsKernelFile, IsWellFormed};
+ghost use Rattle.vx_run.specs.FirstTree.{form_of};
+ghost use Rattle.vx_run.specs.Stages.{ComesTo, IsNoKernel, IsRunnable, StageFaults, StageMisses};
+
+use std::alloc::Global;
+
+use vx_base::{Pos, Text};
+use vx_world::Files;
+
+use crate::first::parser::parse_kernel;
+use crate::first::tree::Kernel;
+use crate::launch::print_launch;
+use crate::loading::load_buffers;
+use crate::reading::read_file;
+use crate::report::{Cause, LaunchKind, SourceKind};
+use crate::stages::Stop;
+use crate::words::{RunWords, UsageFault, read_words};
+
+/// The most bytes that a kernel's file may have.
+pub const SOURCE_LIMIT: usize = 1_048_576;
+
+// The arguments and the run.
+fn answer_arguments(
+    alloc: Global,
+    run: &RunWords,
+    kernel: &Kernel,
+    contents: &[Text],
+) -> Result<Text, Stop>
+    requires words { IsRunnable run.now }
+    requires kernel { IsWellFormed (form_of kernel.now) }
+    requires count { length contents.now ≡ length run.now.buffers }
+    requires lengths { All (λ bytes. length bytes ≡ 4 * run.now.items) contents.now }
+    ensures { ComesTo (FromArguments run.now (form_of kernel.now) contents.now) result }
+{
+    let given = run.arguments.len();
+    let wanted = kernel.parameters.len();
+    if given != wanted {
+        return Err(Stop::Refused(Cause::Launch {
+            index: 0,
+            kind: LaunchKind::Arguments {
+                given: given as u32,
+                wanted: wanted as u32,
+            },
+        }));
+    }
+    Ok(print_launch(alloc, run, kernel, contents)?)
+}
+
+// The entry and the buffers.
+fn answer_entry<F: Files>(
+    alloc: Global,
+    files: &mut F,
+    run: &RunWords,
+    kernel: &Kernel,
+) -> Result<Text, Stop>
+    requires words { IsRunnable run.now }
+    requires kernel { IsWellFormed (form_of kernel.now) }
+    ensures comes { ComesTo (FromEntry (F.held files.old) run.now (form_of kernel.now)) result }
+    ensures faults { StageFaults result (F.faults files.old) (F.faults files.new) }
+    ensures misses { StageMisses result (F.misses files.old) (F.misses files.new) }
+{
+    if kernel.name.as_slice() != run.entry.as_slice() {
+        return Err(Stop::Refused(Cause::Launch {
+            index: 0,
+            kind: LaunchKind::NoEntry,
+        }));
+    }
+    let contents = load_buffers(alloc, files, run)?;
+    answer_arguments(alloc, run, kernel, &contents)
+}
+
+fn wrong_source() -> Stop
+    ensures { result ≡ Stop.Refused (Cause.Source first_place SourceKind.Subset) }
+{
+    Stop::Refused(Cause::Source {
+        pos: Pos { line: 1, col: 1 },
+        kind: SourceKind::Subset,
+    })
+}
+
+// The text of the kernel.
+fn kernel_of(alloc: Global, source: &[u8]) -> Result<Kernel, Stop>
+    ensures found { IfOk result (λ kernel. IsKernelFile source.now (form_of kernel)) }
+    ensures stop { IfErr result (IsNoKernel source.now) }
+{
+    if source.len() > SOURCE_LIMIT {
+        return Err(wrong_source());
+    }
+    match parse_kernel(alloc, source)? {
+        Some(kernel) => Ok(kernel),
+        None => Err(wrong_source()),
+    }
+}
+
+// The file of the kernel.
+fn answer_file<F: Files>(alloc: Global, files: &mut F, run: &RunWords) -> Result<Text, Stop>
+    requires { IsRunnable run.now }
+    ensures comes { ComesTo (FromFile (F.held files.old) run.now) result }
+    ensures faults { StageFaults result (F.faults files.old) (F.faults files.new) }
+    ensures misses { StageMisses result (F.misses files.old) (F.misses files.new) }
+{
+    let source = read_file(alloc, files, &run.file, SOURCE_LIMIT + 1)?;
+    let kernel = kernel_of(alloc, &source)?;
+    answer_entry(alloc, files, run, &kernel)
+}
+
+/// What a call with these words over these files comes to.
+pub fn answer<F: Files>(alloc: Global, files: &mut F, words: &[String]) -> Result<Text, Stop>
+    ensures comes { ComesTo (FromWords (F.held files.old) (map string_bytes words.now)) result }
+    ensures faults { StageFaults result (F.faults files.old) (F.faults files.new) }
+    ensures misses { StageMisses result (F.misses files.old) (F.misses files.new) }
+{
+    match read_words(alloc, words) {
+        Ok(run) => answer_file(alloc, files, &run),
+        Err(UsageFault::Usage { word, kind }) => Err(Stop::Refused(Cause::Usage { word, kind })),
+        Err(UsageFault::Memory) => Err(Stop::Memory),
+    }
+}
