@@ -36,3 +36,4 @@ pub mod FirstCorrect
 pub mod FirstRuns
 pub mod LaunchLaws
 pub mod OneOutcome
+pub mod AnswerLaws

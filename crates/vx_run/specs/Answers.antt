@@ -1,4 +1,4 @@
-use Rattle.std.specs.Prelude.{◌≡◌, ◌≢◌, ℕ, suc, ◌+◌, ◌*◌, min, Option, Some, None, List, [], ◌∷◌, ◌++◌, length, replicate, slice_index, slice_index_or}
+use Rattle.std.specs.Prelude.{◌≡◌, ◌≢◌, ℕ, suc, ◌+◌, ◌-◌, ◌*◌, ◌^◌, min, Option, Some, None, List, [], ◌∷◌, ◌++◌, length, replicate, slice_index, slice_index_or}
 use Rattle.vx_base.specs.declared.types.Pos.{Pos}
 use Rattle.item_acts.specs.Tame.{LaunchLeaves}
 use Rattle.vx_world.specs.declared.reading.Entry.{Entry}
@@ -48,10 +48,10 @@ first_place = record { line = 1; col = 1 }
 abbrev pub bytes_in : List (List ℕ) → ℕ → ℕ → ℕ
 bytes_in contents b byte = slice_index (slice_index_or contents b []) byte
 
--- The arguments and the run: as many arguments as parameters, and then the launch leaves bytes that are printed.
+-- The arguments and the run: as many arguments as parameters (their number is kept as 2^32 - 1 where it is greater), and then the launch leaves bytes that are printed.
 pub data FromArguments (c : RunWords) (k : Form) (contents : List (List ℕ)) : Outcome → Type 0 where
   WrongArguments : length c.arguments ≢ length k.parameters →
-    FromArguments c k contents (Refuses (cause.Launch 0 (launch.Arguments (length c.arguments) (length k.parameters))))
+    FromArguments c k contents (Refuses (cause.Launch 0 (launch.Arguments (min (length c.arguments) (2 ^ 32 - 1)) (length k.parameters))))
   Runs : length c.arguments ≡ length k.parameters → (left : ℕ → ℕ → ℕ) →
     LaunchLeaves (launch_of k c.arguments c.items (length c.buffers)) (bytes_in contents) left →
     FromArguments c k contents (Prints (output_text c left))

@@ -6,6 +6,8 @@ use Rattle.vx_run.specs.declared.stages.Stop.{Stop}
 use Rattle.vx_run.specs.declared.stages.Stop.TheVariants.{Refused, Memory}
 use Rattle.vx_world.specs.declared.reading.Entry.{Entry}
 use Rattle.vx_run.specs.declared.words.RunWords.{RunWords}
+use Rattle.vx_run.specs.declared.words.UsageFault.{UsageFault}
+use Rattle.vx_run.specs.declared.words.UsageFault.TheVariants.{Usage, Memory as NoMemory}
 use Rattle.vx_run.specs.declared.report.SourceKind.TheVariants as source
 use Rattle.vx_run.specs.FirstText.{IsKernelFile}
 use Rattle.vx_run.specs.FirstTree.{Form}
@@ -86,3 +88,15 @@ abbrev pub IsNoKernel : List ℕ → Stop → Type 0
 IsNoKernel bytes (Refused (cause.Source pos kind)) = (pos ≡ first_place) × (kind ≡ source.Subset) × ((k : Form) → IsKernelFile bytes k → ⊥)
 IsNoKernel bytes (Refused c) = ⊥
 IsNoKernel bytes Memory = Unit {0}
+
+-- no file stops the call
+abbrev pub IsPlain : Stop → Type 0
+IsPlain (Refused (cause.ReadFault faults)) = ⊥
+IsPlain (Refused (cause.Missing name)) = ⊥
+IsPlain (Refused c) = Unit {0}
+IsPlain Memory = Unit {0}
+
+-- words that are not read stop the call
+abbrev pub StopsFor : UsageFault → Stop → Type 0
+StopsFor (Usage word kind) stop = stop ≡ Refused (cause.Usage word kind)
+StopsFor NoMemory stop = stop ≡ Memory

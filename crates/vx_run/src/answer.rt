@@ -1,14 +1,14 @@
 //! What a call comes to, stage by stage in the order of its answers.
 
-ghost use Rattle.std.specs.Prelude.{◌≡◌, ◌*◌, All, length, map, string_bytes, IfOk, IfErr};
+ghost use Rattle.std.specs.Prelude.{◌≡◌, ◌-◌, ◌*◌, ◌^◌, ◌≤◌, ◌↔◌, min, All, length, map, string_bytes, IsTrue, IfOk, IfErr};
 ghost use Rattle.vx_run.specs.Answers.{first_place, FromArguments, FromEntry, FromFile, FromWords};
 ghost use Rattle.vx_run.specs.FirstText.{IsKernelFile, IsWellFormed};
 ghost use Rattle.vx_run.specs.FirstTree.{form_of};
-ghost use Rattle.vx_run.specs.Stages.{ComesTo, IsNoKernel, IsRunnable, StageFaults, StageMisses};
+ghost use Rattle.vx_run.specs.Stages.{ComesTo, IsNoKernel, IsPlain, IsRunnable, StageFaults, StageMisses, StopsFor};
 
 use std::alloc::Global;
 
-use vx_base::{Pos, Text};
+use vx_base::{Memory, Pos, Text};
 use vx_world::Files;
 
 use crate::first::parser::parse_kernel;
@@ -23,6 +23,19 @@ use crate::words::{RunWords, UsageFault, read_words};
 /// The most bytes that a kernel's file may have.
 pub const SOURCE_LIMIT: usize = 1_048_576;
 
+fn wrong_arguments(given: usize, wanted: usize) -> Stop
+    requires { wanted ≤ 16 }
+    ensures { result ≡ Stop.Refused (Cause.Launch 0 (LaunchKind.Arguments (min given (2 ^ 32 - 1)) wanted)) }
+{
+    Stop::Refused(Cause::Launch {
+        index: 0,
+        kind: LaunchKind::Arguments {
+            given: given.min(u32::MAX as usize) as u32,
+            wanted: wanted as u32,
+        },
+    })
+}
+
 // The arguments and the run.
 fn answer_arguments(
     alloc: Global,
@@ -34,20 +47,24 @@ fn answer_arguments(
     requires kernel { IsWellFormed (form_of kernel.now) }
     requires count { length contents.now ≡ length run.now.buffers }
     requires lengths { All (λ bytes. length bytes ≡ 4 * run.now.items) contents.now }
-    ensures { ComesTo (FromArguments run.now (form_of kernel.now) contents.now) result }
+    ensures comes { ComesTo (FromArguments run.now (form_of kernel.now) contents.now) result }
+    ensures plain { IfErr result IsPlain }
 {
     let given = run.arguments.len();
     let wanted = kernel.parameters.len();
     if given != wanted {
-        return Err(Stop::Refused(Cause::Launch {
-            index: 0,
-            kind: LaunchKind::Arguments {
-                given: given as u32,
-                wanted: wanted as u32,
-            },
-        }));
+        return Err(wrong_arguments(given, wanted));
     }
-    Ok(print_launch(alloc, run, kernel, contents)?)
+    match print_launch(alloc, run, kernel, contents) {
+        Ok(text) => Ok(text),
+        Err(Memory) => Err(Stop::Memory),
+    }
+}
+
+fn is_same(name: &[u8], entry: &[u8]) -> bool
+    ensures { IsTrue result ↔ (name.now ≡ entry.now) }
+{
+    name == entry
 }
 
 // The entry and the buffers.
@@ -63,7 +80,7 @@ fn answer_entry<F: Files>(
     ensures faults { StageFaults result (F.faults files.old) (F.faults files.new) }
     ensures misses { StageMisses result (F.misses files.old) (F.misses files.new) }
 {
-    if kernel.name.as_slice() != run.entry.as_slice() {
+    if !is_same(kernel.name.as_slice(), run.entry.as_slice()) {
         return Err(Stop::Refused(Cause::Launch {
             index: 0,
             kind: LaunchKind::NoEntry,
@@ -108,6 +125,15 @@ fn answer_file<F: Files>(alloc: Global, files: &mut F, run: &RunWords) -> Result
     answer_entry(alloc, files, run, &kernel)
 }
 
+fn usage_stop(fault: UsageFault) -> Stop
+    ensures { StopsFor fault result }
+{
+    match fault {
+        UsageFault::Usage { word, kind } => Stop::Refused(Cause::Usage { word, kind }),
+        UsageFault::Memory => Stop::Memory,
+    }
+}
+
 /// What a call with these words over these files comes to.
 pub fn answer<F: Files>(alloc: Global, files: &mut F, words: &[String]) -> Result<Text, Stop>
     ensures comes { ComesTo (FromWords (F.held files.old) (map string_bytes words.now)) result }
@@ -116,7 +142,6 @@ pub fn answer<F: Files>(alloc: Global, files: &mut F, words: &[String]) -> Resul
 {
     match read_words(alloc, words) {
         Ok(run) => answer_file(alloc, files, &run),
-        Err(UsageFault::Usage { word, kind }) => Err(Stop::Refused(Cause::Usage { word, kind })),
-        Err(UsageFault::Memory) => Err(Stop::Memory),
+        Err(fault) => Err(usage_stop(fault)),
     }
 }
