@@ -1,4 +1,4 @@
-use Rattle.std.specs.Prelude.{ℕ, Bool, ◌&&◌, ◌||◌, nat_eq, nat_le, IsTrue, false, List, [], ◌∷◌}
+use Rattle.std.specs.Prelude.{◌≡◌, ℕ, Bool, ◌&&◌, ◌||◌, nat_eq, nat_le, IsTrue, false, List, [], ◌∷◌}
 use Rattle.std.specs.List.{list_all}
 
 -- a letter or `_`, which begins a name

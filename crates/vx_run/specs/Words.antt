@@ -1,4 +1,4 @@
-use Rattle.std.specs.Prelude.{◌≡◌, ◌≢◌, ℕ, ◌<◌, ◌≤◌, Option, Some, None, List, [], ◌∷◌, ◌++◌, length, map, All, slice_get, codes}
+use Rattle.std.specs.Prelude.{◌≡◌, ◌≢◌, ℕ, ◌<◌, ◌≤◌, ◌*◌, Option, Some, None, List, [], ◌∷◌, ◌++◌, length, map, All, EachIndex, slice_get, slice_index_or, codes}
 use Rattle.std.specs.List.{filter_map, join_with_byte}
 use Rattle.std.specs.Fmt.{decimal}
 use Rattle.vx_run.specs.Names.{IsName}
