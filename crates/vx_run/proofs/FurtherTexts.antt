@@ -4,7 +4,7 @@ use Rattle.std.specs.Prelude.{codes}
 use Rattle.std.specs.List.{AllByRecursion}
 use Rattle.vx_run.specs.declared.words.further.DoWord.{DoWord}
 use Rattle.vx_run.specs.Names.{IsName}
-use Rattle.std.proofs.Common.{◌<◌, ◌^◌, eqb}
+use Rattle.std.proofs.Common.{eqb}
 use Rattle.std.specs.List.{join_with_byte, slice_split}
 use Rattle.std.specs.Fmt.{decimal}
 use Rattle.std.proofs.lemmas.Fmt.{decimal_injective}
@@ -14,8 +14,8 @@ use Rattle.vx_run.specs.declared.words.BufFrom.TheVariants.{File, Zero}
 use Rattle.vx_run.specs.declared.words.BufWord.{BufWord}
 use Rattle.vx_run.specs.Words.{Further, Buffer, Launch, Show, word_text, origin_text, arguments_text, IsOrigin}
 use Rattle.vx_run.specs.WordForms.{IsFurther, CutsAt}
-use Rattle.vx_run.proofs.Texts.{name_lacks, name_cut, buffer_cut, slice_split-join_with_byte}
-use Rattle.vx_run.proofs.LaunchTexts.{IsLaunchText, launch_front, launch_count, launch_again, launch_arguments, regrouped, decimal_lacks_slash}
+use Rattle.vx_run.proofs.Texts.{name_lacks, buffer_cut, slice_split-join_with_byte}
+use Rattle.vx_run.proofs.LaunchTexts.{IsLaunchText, launch_front, launch_count, launch_arguments, regrouped, decimal_lacks_slash}
 
 abbrev pub head_of : List ℕ → ℕ
 head_of l = get_or l 0 0

@@ -1,11 +1,11 @@
 -- What a refusal says, passed on by a `?`.
-use Rattle.std.proofs.Common.{◌≡◌, Option, Some, None, Result, Ok, Err, refl, sym, subst}
+use Rattle.std.proofs.Common.{◌≡◌, Option, Some, None, Result, Err, sym, subst}
 use Rattle.std.specs.Option.{MatchOption}
 use Rattle.std.specs.Result.{IsErrAnd, MatchResult}
 use Rattle.std.proofs.lemmas.Result.{err_from_is_err_and}
 use Rattle.vx_run.specs.declared.words.UsageFault.{UsageFault}
 use Rattle.vx_run.specs.declared.words.UsageFault.TheVariants.{Usage, Memory}
-use Rattle.vx_run.specs.WordForms.{IsBadForm, Finds}
+use Rattle.vx_run.specs.WordForms.{IsBadForm}
 
 -- a bad form for one reason is one for each that follows
 pub IsBadForm-weaker : (fault : UsageFault) (A B : Type 0) → (A → B) → IsBadForm fault A → IsBadForm fault B

@@ -1,6 +1,6 @@
 -- The words of `run`, from the words behind the file and what they say.
-use Rattle.std.proofs.Common.{◌≡◌, ℕ, zero, suc, ◌+◌, ◌<◌, ◌≤◌, ◌⊎◌, inl, inr, Result, Ok, Err, List, [], ◌∷◌, ◌++◌, length, get_or, drop, map, Some, refl, sym, ap, ◌∙◌, subst, arith}
-use Rattle.std.specs.Prelude.{codes, slice_get, All}
+use Rattle.std.proofs.Common.{◌≡◌, ℕ, zero, suc, ◌+◌, ◌≤◌, ◌⊎◌, inl, inr, Result, Ok, Err, List, [], ◌∷◌, length, get_or, drop, map, Some, refl, sym, ap, ◌∙◌, subst, arith}
+use Rattle.std.specs.Prelude.{codes, slice_get}
 use Rattle.std.specs.List.{AllByRecursion, filter_map}
 use Rattle.std.proofs.lemmas.List.{length-map}
 use Rattle.std.proofs.lemmas.Option.{same_Some}
@@ -13,7 +13,7 @@ use Rattle.vx_run.specs.declared.words.UsageKind.TheVariants.{Form}
 use Rattle.vx_run.specs.declared.words.UsageFault.{UsageFault}
 use Rattle.vx_run.specs.declared.words.UsageFault.TheVariants.{Usage, Memory}
 use Rattle.vx_run.specs.Names.{IsName}
-use Rattle.vx_run.specs.Words.{Further, Buffer, Launch, Show, LaunchWord, word_text, buffer_of, launch_of_word, show_of, IsOrigin, AreNumbersOf, AreDistinct, IsRun}
+use Rattle.vx_run.specs.Words.{Further, Buffer, Launch, Show, LaunchWord, word_text, buffer_of, launch_of_word, show_of, IsOrigin, AreNumbersOf, IsRun}
 use Rattle.vx_run.specs.WordForms.{BeginsRun, Finds, IsFurther, Spells, IsParts, IsMeaning, launch_word}
 use Rattle.vx_run.proofs.NumberedNames.{names_of, AreNumbersOf-length, AreNumbersOf-same}
 use Rattle.vx_run.proofs.FurtherTexts.{word_same}
@@ -167,8 +167,8 @@ same_fields c d file buffers entry items arguments shows =
     let two : run_record d.file d.buffers d.entry d.items d.arguments d.shows ≡ d = refl in
     one ∙ same_record ∙ two
   where
-  same_record : run_record c.file c.buffers c.entry c.items c.arguments c.shows ≡ run_record d.file d.buffers d.entry d.items d.arguments d.shows
-  same_record = cc
+    same_record : run_record c.file c.buffers c.entry c.items c.arguments c.shows ≡ run_record d.file d.buffers d.entry d.items d.arguments d.shows
+    same_record = cc
 
 -- words ask for one thing
 pub IsRun-same : (ws : List (List ℕ)) (c d : RunWords) → IsRun ws c → IsRun ws d → c ≡ d

@@ -1,5 +1,5 @@
 -- Texts that are cut at a byte, and names, which lack the bytes at which words are cut.
-use Rattle.std.proofs.Common.{◌≡◌, ◌≢◌, ℕ, zero, suc, ◌+◌, ◌<◌, ◌≤◌, ◌^◌, ◌-◌, take, drop, Bool, eqb, true, false, ◌&&◌, ◌||◌, subst, List, [], ◌∷◌, ◌++◌, length, get_or, refl, sym, ap, ◌∙◌, arith, append_assoc}
+use Rattle.std.proofs.Common.{◌≡◌, ◌≢◌, ℕ, suc, ◌<◌, ◌≤◌, ◌^◌, ◌-◌, take, drop, Bool, eqb, true, false, ◌&&◌, ◌||◌, subst, List, [], ◌∷◌, ◌++◌, length, get_or, refl, sym, ap, ◌∙◌, arith, append_assoc}
 use Rattle.std.proofs.lemmas.Bool.{and_parts, false≢true, ne_eqb}
 use Rattle.std.specs.List.{All, AllByRecursion, list_all, join_with_byte, slice_split}
 use Rattle.std.proofs.lemmas.List.Elements.{All-nil, All-cons}

@@ -1,12 +1,10 @@
-use Rattle.std.specs.Prelude.{◌≡◌, ◌≢◌, ℕ, ◌<◌, ◌≤◌, List, [], ◌∷◌, ◌++◌, length, map, slice_get, Option, Some, Result, MatchResult, codes}
-use Rattle.std.specs.List.{AllByRecursion, filter_map, join_with_byte}
+use Rattle.std.specs.Prelude.{◌≡◌, ◌≢◌, ℕ, ◌<◌, ◌≤◌, List, [], ◌∷◌, ◌++◌, length, map, slice_get, Some, Result, MatchResult, codes}
+use Rattle.std.specs.List.{AllByRecursion, filter_map}
 use Rattle.vx_run.specs.Names.{IsName}
 use Rattle.vx_run.specs.Words.{Further, Buffer, Launch, Show, LaunchWord, word_text, buffer_of, launch_of_word, show_of, IsOrigin, AreNumbersOf, AreDistinct}
-use Rattle.vx_run.specs.declared.words.UsageKind.{UsageKind}
 use Rattle.vx_run.specs.declared.words.UsageKind.TheVariants.{Form}
 use Rattle.vx_run.specs.declared.words.UsageFault.{UsageFault}
 use Rattle.vx_run.specs.declared.words.UsageFault.TheVariants.{Usage, Memory}
-use Rattle.vx_run.specs.declared.words.BufWord.{BufWord}
 use Rattle.vx_run.specs.declared.words.RunWords.{RunWords}
 use Rattle.vx_run.specs.declared.words.form.Parts.{Parts}
 use Rattle.vx_run.specs.declared.words.further.DoWord.{DoWord}

@@ -1,3 +1,7 @@
+//! The words of the command line, and what they ask for.
+//!
+//! Read first `specs/Words.antt` for what each word says, then `form` for the words together, and `further` for each
+//! word behind the file.
 ghost use Rattle.std.specs.Prelude.{◌≡◌, ◌⊎◌, ℕ, Ok, Err, map, IfOk};
 ghost use Rattle.std.specs.String.{string_bytes};
 ghost use Rattle.vx_run.specs.declared.words.RunWords.{RunWords};
@@ -121,3 +125,6 @@ pub fn read_words(alloc: Global, words: &[String]) -> Result<RunWords, UsageFaul
     }
     read_form(alloc, behind)
 }
+
+#[cfg(test)]
+mod tests;

@@ -1,7 +1,6 @@
 use Rattle.std.proofs.Common.{◌≡◌, List, ℕ, ◌∷◌, map, ap, sym, ◌∙◌, subst, rules}
 use Rattle.std.specs.Prelude.{codes}
 use Rattle.std.specs.String.{string_bytes}
-use Rattle.vx_run.specs.declared.words.RunWords.{RunWords}
 use Rattle.vx_run.specs.Words.{IsRun}
 use Rattle.vx_run.specs.WordForms.{Finds, BeginsRun}
 use Rattle.vx_run.proofs.RunMeaning.{only_from_finds, form_from_finds}

@@ -1,4 +1,3 @@
-use Rattle.std.proofs.Common.{◌≡◌, sym, ap, ◌∙◌, arith, rules}
 use Rattle.vx_run.proofs.WordParts.{IsParts-buffer, IsParts-launch, IsParts-show}
 use Rattle.vx_run.proofs.words.form.parts_of.Goals as goal
 

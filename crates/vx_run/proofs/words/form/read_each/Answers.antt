@@ -1,4 +1,4 @@
-use Rattle.std.proofs.Common.{◌≡◌, sym, ap, ◌∙◌, arith}
+use Rattle.std.proofs.Common.{ap, ◌∙◌, arith}
 use Rattle.std.specs.String.{string_bytes}
 use Rattle.vx_run.specs.Words.{word_text}
 use Rattle.vx_run.specs.WordForms.{IsFurther}

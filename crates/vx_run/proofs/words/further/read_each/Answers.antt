@@ -1,4 +1,4 @@
-use Rattle.std.proofs.Common.{◌≡◌, List, [], ℕ, map, ◌∙◌, sym, arith}
+use Rattle.std.proofs.Common.{List, [], ℕ, ◌∙◌, sym, arith}
 use Rattle.std.proofs.lemmas.List.{map-id}
 use denote.Ref.{Bor}
 use Rattle.vx_run.specs.Names.{IsName}

@@ -1,9 +1,7 @@
-use Rattle.std.proofs.Common.{◌≡◌, List, ℕ, eqb, map, ◌∙◌, sym, subst, ap}
-use Rattle.std.specs.List.{join_with_byte, slice_split, AllByRecursion}
-use Rattle.std.specs.Result.{MatchResult}
+use Rattle.std.proofs.Common.{◌≡◌, eqb, map, ◌∙◌, sym, ap}
+use Rattle.std.specs.List.{join_with_byte, slice_split}
 use Rattle.std.proofs.lemmas.Result.{MatchResult-weaker}
 use Rattle.std.proofs.lemmas.List.Splits.{join_with_byte-slice_split}
-use Rattle.vx_run.specs.Names.{IsName}
 use Rattle.vx_run.proofs.Refusals.{IsBadForm-weaker}
 use Rattle.vx_run.proofs.Texts.{slice_split-join_with_byte, slice_split-some}
 use Rattle.vx_run.proofs.words.further.read_names.Goals as goal

@@ -1,4 +1,4 @@
-use Rattle.std.proofs.Common.{◌≡◌, ℕ, ◌<◌, ◌^◌, refl, arith, rules}
+use Rattle.std.proofs.Common.{◌≡◌, ◌<◌, ◌^◌, refl, arith, rules}
 use Rattle.vx_run.proofs.Texts.{number_same}
 use Rattle.std.specs.Fmt.{decimal}
 use Rattle.vx_run.proofs.words.further.read_number.Goals as goal

@@ -1,4 +1,4 @@
-use Rattle.std.proofs.Common.{◌≡◌, ◌≢◌, ℕ, ◌<◌, map, Some}
+use Rattle.std.proofs.Common.{◌≢◌, ℕ, ◌<◌, map}
 use Rattle.std.specs.Prelude.{slice_get}
 use Rattle.vx_run.proofs.words.numbers.has_distinct_names.Given as goal
 

@@ -1,4 +1,4 @@
-use Rattle.std.proofs.Common.{◌≡◌, Some, refl, sym, ap, ◌∙◌, arith}
+use Rattle.std.proofs.Common.{Some, refl, sym, ap, ◌∙◌, arith}
 use Rattle.vx_run.proofs.NumberedNames.{no_numbers, AreNumbersOf-more}
 use Rattle.vx_run.proofs.words.numbers.numbers_of.Goals as goal
 
