@@ -130,7 +130,7 @@ element_is names tokens x e =
     let s : d.0 ≡ Mark (codes "]") ∷ f.0 = after_is _ d.0 f.0 f.1 in
     let made : (b.0, f.0) ≡ x = cc in
     let whole : tokens ≡ element_tokens (name_of names b.0) f.0 =
-        p ∙ ap (λ (ts : List Token). Name a.0.0 ∷ ts) (q ∙ ap (λ (ts : List Token). Mark (codes "[") ∷ ts) (r ∙ ap id_tokens s)) ∙ ap (λ (name : List ℕ). element_tokens name f.0) (sym place.1) in
+    p ∙ ap (λ (ts : List Token). Name a.0.0 ∷ ts) (q ∙ ap (λ (ts : List Token). Mark (codes "[") ∷ ts) (r ∙ ap id_tokens s)) ∙ ap (λ (name : List ℕ). element_tokens name f.0) (sym place.1) in
     subst (λ (y : ℕ × List Token). (tokens ≡ element_tokens (name_of names y.0) y.1) × (y.0 < length names)) made (whole, place.0)
 
 pub element_again : (names : List (List ℕ)) (k : ℕ) (rest : List Token) → IsDistinct bytes_eq names → k < length names → element_at names (element_tokens (name_of names k) rest) ≡ Some (k, rest)

@@ -101,34 +101,34 @@ parameters_are (suc room) before tokens x e =
     let name : List ℕ = a.0.0 in
     elim (chosen (λ rest. parameters_at room (before ++ name ∷ []) rest) (after (Mark (codes ",")) a.0.1) (option_map (λ rest. (before ++ name ∷ [], rest)) (after (Mark (codes ")")) a.0.1)) (Some x) a.2) [
       | inl found ↦
-        let r = parameters_are room (before ++ name ∷ []) found.0 x found.2 in
-        let comma : a.0.1 ≡ Mark (codes ",") ∷ found.0 = after_is _ a.0.1 found.0 found.1 in
-        let more_parts : a.0.1 ≡ more_parameters_tokens r.more (Mark (codes ")") ∷ x.1) = comma ∙ ap (λ (ts : List Token). Mark (codes ",") ∷ ts) r.parts ∙ comma_more r.more (Mark (codes ")") ∷ x.1) r.some in
-        let split = apart_push before name r.more r.apart in
-        record {
-          more = name ∷ r.more;
-          together = r.together ∙ append_assoc before (name ∷ []) r.more;
-          parts = p.0 ∙ ap (parameter_tokens name) more_parts;
-          some = omega arith;
-          few = omega (arith, r.few);
-          free = (p.1, r.free);
-          apart = (p.2, split.0);
-          differ = (split.1, r.differ);
-        }
+          let r = parameters_are room (before ++ name ∷ []) found.0 x found.2 in
+          let comma : a.0.1 ≡ Mark (codes ",") ∷ found.0 = after_is _ a.0.1 found.0 found.1 in
+          let more_parts : a.0.1 ≡ more_parameters_tokens r.more (Mark (codes ")") ∷ x.1) = comma ∙ ap (λ (ts : List Token). Mark (codes ",") ∷ ts) r.parts ∙ comma_more r.more (Mark (codes ")") ∷ x.1) r.some in
+          let split = apart_push before name r.more r.apart in
+          record {
+            more = name ∷ r.more;
+            together = r.together ∙ append_assoc before (name ∷ []) r.more;
+            parts = p.0 ∙ ap (parameter_tokens name) more_parts;
+            some = omega arith;
+            few = omega (arith, r.few);
+            free = (p.1, r.free);
+            apart = (p.2, split.0);
+            differ = (split.1, r.differ);
+          }
       | inr none ↦
-        let g = mapped (λ (rest : List Token). (before ++ name ∷ [], rest)) (after (Mark (codes ")")) a.0.1) x none.1 in
-        let close : a.0.1 ≡ Mark (codes ")") ∷ g.0 = after_is _ a.0.1 g.0 g.1 in
-        subst (λ (y : List (List ℕ) × List Token). ParametersAre (suc room) before tokens y) g.2
-        (record {
-          more = name ∷ [];
-          together = refl;
-          parts = p.0 ∙ ap (parameter_tokens name) close;
-          some = omega arith;
-          few = omega arith;
-          free = (p.1, tt);
-          apart = (p.2, tt);
-          differ = (tt, tt);
-        })
+          let g = mapped (λ (rest : List Token). (before ++ name ∷ [], rest)) (after (Mark (codes ")")) a.0.1) x none.1 in
+          let close : a.0.1 ≡ Mark (codes ")") ∷ g.0 = after_is _ a.0.1 g.0 g.1 in
+          subst (λ (y : List (List ℕ) × List Token). ParametersAre (suc room) before tokens y) g.2
+          (record {
+            more = name ∷ [];
+            together = refl;
+            parts = p.0 ∙ ap (parameter_tokens name) close;
+            some = omega arith;
+            few = omega arith;
+            free = (p.1, tt);
+            apart = (p.2, tt);
+            differ = (tt, tt);
+          })
     ]
 
 no_comma : (rest : List Token) → after (Mark (codes ",")) (Mark (codes ")") ∷ rest) ≡ None

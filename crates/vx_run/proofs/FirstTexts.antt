@@ -63,21 +63,21 @@ assignments_are names zero before tokens x e = absurd cc
 assignments_are names (suc turns) before tokens x e =
     elim (chosen (λ rest. Some (before, rest)) (after (Mark (codes "}")) tokens) (assignment_at names tokens >>= λ a. assignments_at names turns (before ++ a.0 ∷ []) a.1) (Some x) e) [
       | inl found ↦
-        let made : (before, found.0) ≡ x = cc in
-        subst (λ (y : List Assigns × List Token). AssignmentsAre names before tokens y) made
-        (record { more = []; together = sym (append-nil before); parts = after_is _ tokens found.0 found.1; of_names = tt; shaped = tt; low = tt })
+          let made : (before, found.0) ≡ x = cc in
+          subst (λ (y : List Assigns × List Token). AssignmentsAre names before tokens y) made
+          (record { more = []; together = sym (append-nil before); parts = after_is _ tokens found.0 found.1; of_names = tt; shaped = tt; low = tt })
       | inr none ↦
-        let a = bind_some (assignment_at names tokens) (λ a. assignments_at names turns (before ++ a.0 ∷ []) a.1) x none.1 in
-        let p = assignment_is names tokens a.0 a.1 in
-        let r = assignments_are names turns (before ++ a.0.0 ∷ []) a.0.1 x a.2 in
-        record {
-          more = a.0.0 ∷ r.more;
-          together = r.together ∙ append_assoc before (a.0.0 ∷ []) r.more;
-          parts = p.0 ∙ ap (assignment_tokens names a.0.0) r.parts;
-          of_names = (p.1.of_names, r.of_names);
-          shaped = (p.1.shaped, r.shaped);
-          low = (p.1.low, r.low);
-        }
+          let a = bind_some (assignment_at names tokens) (λ a. assignments_at names turns (before ++ a.0 ∷ []) a.1) x none.1 in
+          let p = assignment_is names tokens a.0 a.1 in
+          let r = assignments_are names turns (before ++ a.0.0 ∷ []) a.0.1 x a.2 in
+          record {
+            more = a.0.0 ∷ r.more;
+            together = r.together ∙ append_assoc before (a.0.0 ∷ []) r.more;
+            parts = p.0 ∙ ap (assignment_tokens names a.0.0) r.parts;
+            of_names = (p.1.of_names, r.of_names);
+            shaped = (p.1.shaped, r.shaped);
+            low = (p.1.low, r.low);
+          }
     ]
 
 no_brace : (name : List ℕ) (rest : List Token) → after (Mark (codes "}")) (element_tokens name rest) ≡ None
