@@ -8,3 +8,4 @@ pub mod FirstSums
 pub mod FirstSumsAgain
 pub mod FirstKernels
 pub mod FirstTexts
+pub mod FirstExamples
