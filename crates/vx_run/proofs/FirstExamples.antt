@@ -1,13 +1,11 @@
 -- Short texts and small kernels, computed.
-use Rattle.std.proofs.Common.{◌≡◌, ℕ, List, [], ◌∷◌, length, Option, Some, None, refl, ap, ◌∙◌, arith}
+use Rattle.std.proofs.Common.{◌≡◌, ℕ, List, [], ◌∷◌, length, Some, None, refl, arith}
 use Rattle.std.specs.Prelude.{codes}
 use Rattle.std.specs.List.{AllByRecursion}
-use Rattle.std.specs.Fmt.{decimal}
 use Rattle.std.proofs.lemmas.Fmt.{decimal_digit}
-use Rattle.vx_run.specs.declared.first.lexer.Token.{Token}
 use Rattle.vx_run.specs.declared.first.lexer.Token.TheVariants.{Name, Number, Mark}
 use Rattle.vx_run.specs.declared.first.tree.Operator.TheVariants.{Add, Multiply}
-use Rattle.vx_run.specs.FirstTree.{Literal, OwnId, OwnElement, Grouped, Applied, Assigns, Form}
+use Rattle.vx_run.specs.FirstTree.{Literal, OwnId, OwnElement, Grouped, Applied, Form}
 use Rattle.vx_run.specs.FirstTokens.{mark_at, token_at, tokens_from, tokens_of}
 use Rattle.vx_run.specs.FirstText.{kernel_tokens, IsKernelText}
 use Rattle.vx_run.specs.FirstValues.{IsAssignmentOf}

@@ -1,5 +1,5 @@
 -- What reads one token, one name or one element reads what spells it, and what spells it is read.
-use Rattle.std.proofs.Common.{◌≡◌, ◌≢◌, ℕ, zero, suc, ◌+◌, ◌<◌, ◌≤◌, Bool, true, false, cond, not, ltb, eqb, List, [], ◌∷◌, length, get_or, Option, Some, None, refl, sym, ap, subst, ◌∙◌, arith}
+use Rattle.std.proofs.Common.{◌≡◌, ℕ, zero, suc, ◌<◌, Bool, true, false, cond, not, ltb, List, [], ◌∷◌, length, get_or, Option, Some, None, refl, sym, ap, subst, ◌∙◌, arith}
 use Rattle.std.specs.Prelude.{codes, position}
 use Rattle.std.specs.List.{AllByRecursion, IsDistinct, position_or_len, prefix_len}
 use Rattle.std.specs.Str.{bytes_eq}
@@ -9,7 +9,7 @@ use Rattle.std.proofs.lemmas.Slice.Eq.{bytes_eq-Decides}
 use Rattle.vx_run.specs.declared.first.lexer.Token.{Token}
 use Rattle.vx_run.specs.declared.first.lexer.Token.TheVariants.{Name, Number, Mark}
 use Rattle.vx_run.specs.FirstText.{id_tokens, element_tokens, name_of, is_reserved}
-use Rattle.vx_run.specs.FirstReading.{Read, ◌>>=◌, token_eq, after, name_at, after_id, element_at}
+use Rattle.vx_run.specs.FirstReading.{◌>>=◌, token_eq, after, name_at, after_id, element_at}
 
 -- the value of a step that did not fail
 pub bind_some : {A B : Type 0} (o : Option A) (f : A → Option B) (y : B) → (o >>= f) ≡ Some y → (x : A) × (o ≡ Some x) × (f x ≡ Some y)

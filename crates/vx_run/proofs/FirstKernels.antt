@@ -1,21 +1,15 @@
 -- What reads a kernel reads what spells it, and what spells it is read.
-use Rattle.std.proofs.Common.{◌≡◌, ℕ, zero, suc, ◌+◌, ◌<◌, ◌≤◌, max, Bool, true, false, ◌||◌, cond, leb, ltb, List, [], ◌∷◌, ◌++◌, length, Option, Some, None, refl, sym, ap, subst, ◌∙◌, ◌⊎◌, inl, inr, append_assoc, arith}
+use Rattle.std.proofs.Common.{◌≡◌, ℕ, zero, suc, ◌<◌, ◌≤◌, Bool, true, false, ◌||◌, cond, List, [], ◌∷◌, ◌++◌, length, Some, None, refl, sym, ap, subst, ◌∙◌, inl, inr, append_assoc, arith}
 use Rattle.std.specs.Prelude.{codes, option_map}
 use Rattle.std.specs.Option.{option_map_or}
 use Rattle.std.specs.List.{AllByRecursion, IsDistinct, list_any}
 use Rattle.std.specs.Str.{bytes_eq}
-use Rattle.std.proofs.lemmas.Bool.{leb-true, le-leb, ltb-false}
-use Rattle.std.proofs.lemmas.List.{append-nil, nil_from_length}
 use Rattle.vx_run.specs.declared.first.lexer.Token.{Token}
-use Rattle.vx_run.specs.declared.first.lexer.Token.TheVariants.{Name, Number, Mark}
-use Rattle.vx_run.specs.FirstTree.{Tree, Literal, OwnId, OwnElement, Grouped, Applied, Assigns, Form, height}
-use Rattle.vx_run.specs.FirstTokens.{tokens_of}
-use Rattle.vx_run.specs.FirstValues.{IsSumOf, IsAssignmentOf}
-use Rattle.vx_run.specs.FirstText.{id_tokens, element_tokens, name_of, sum_tokens, assignments_tokens, parameter_tokens, more_parameters_tokens, parameters_tokens, kernel_tokens, IsSumShaped, is_reserved, IsWellFormed, IsKernelText}
-use Rattle.vx_run.specs.FirstReading.{Read, ◌>>=◌, after, name_at, element_at, sum_at, assignment_at, assignments_at, parameter_at, parameters_at, kernel_name_at, form_at, form_of_tokens, form_of_text}
-use Rattle.vx_run.proofs.FirstFields.{bind_some, cond_some, cond_none, after_is, after_again, name_is, name_again, element_is, element_again}
-use Rattle.vx_run.proofs.FirstSums.{mapped, chosen, sum_spells}
-use Rattle.vx_run.proofs.FirstSumsAgain.{sum_again}
+use Rattle.vx_run.specs.declared.first.lexer.Token.TheVariants.{Name, Mark}
+use Rattle.vx_run.specs.FirstText.{parameter_tokens, more_parameters_tokens, parameters_tokens, is_reserved}
+use Rattle.vx_run.specs.FirstReading.{◌>>=◌, after, name_at, parameter_at, parameters_at}
+use Rattle.vx_run.proofs.FirstFields.{bind_some, cond_none, after_is, after_again, name_is, name_again}
+use Rattle.vx_run.proofs.FirstSums.{mapped, chosen}
 
 neither : (a b : Bool) → (a || b) ≡ false → (a ≡ false) × (b ≡ false)
 neither true b e = absurd cc

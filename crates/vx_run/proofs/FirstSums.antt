@@ -1,20 +1,17 @@
 -- What reads a sum reads what spells it, and what spells it is read.
-use Rattle.std.proofs.Common.{◌≡◌, ℕ, zero, suc, ◌+◌, ◌<◌, ◌≤◌, max, false, List, [], ◌∷◌, length, Option, Some, None, refl, sym, ap, subst, ◌∙◌, ◌⊎◌, inl, inr, arith}
+use Rattle.std.proofs.Common.{◌≡◌, ℕ, zero, suc, ◌≤◌, List, [], ◌∷◌, length, Option, Some, None, refl, ap, subst, ◌∙◌, ◌⊎◌, inl, inr, arith}
 use Rattle.std.specs.Prelude.{codes, option_map}
 use Rattle.std.specs.Option.{option_map_or}
-use Rattle.std.specs.List.{AllByRecursion, IsDistinct}
-use Rattle.std.specs.Fmt.{decimal}
-use Rattle.std.specs.Str.{bytes_eq}
 use Rattle.vx_run.specs.declared.first.lexer.Token.{Token}
 use Rattle.vx_run.specs.declared.first.lexer.Token.TheVariants.{Name, Number, Mark}
 use Rattle.vx_run.specs.declared.first.tree.Operator.{Operator}
 use Rattle.vx_run.specs.declared.first.tree.Operator.TheVariants.{Add, Subtract, Multiply}
-use Rattle.vx_run.specs.FirstTree.{Tree, Literal, OwnId, OwnElement, Grouped, Applied, height}
+use Rattle.vx_run.specs.FirstTree.{Tree, Literal, OwnId, OwnElement, Grouped, Applied}
 use Rattle.vx_run.specs.FirstValues.{IsSumOf}
-use Rattle.vx_run.specs.FirstText.{id_tokens, element_tokens, operator_token, name_of, sum_tokens, operator_rank, rank, IsSumShaped, is_reserved}
+use Rattle.vx_run.specs.FirstText.{operator_token, sum_tokens, operator_rank, rank, IsSumShaped}
 use Rattle.vx_run.specs.FirstReading.{Read, ◌>>=◌, after, after_id, element_at, literal_of, group_at, named_at, first_at, times_at, plus_at, chain_at, product_at, sum_at}
-use Rattle.vx_run.proofs.FirstLiterals.{literal_is, literal_spelled}
-use Rattle.vx_run.proofs.FirstFields.{bind_some, after_is, after_again, id_is, id_again, all_at, element_is, element_again, no_id}
+use Rattle.vx_run.proofs.FirstLiterals.{literal_is}
+use Rattle.vx_run.proofs.FirstFields.{bind_some, after_is, id_is, element_is}
 
 -- the tokens spell a sum that holds together at least so tightly, and then the rest
 pub record Spells (names : List (List ℕ)) (least : ℕ) (tokens : List Token) (t : Tree) (rest : List Token) : Type 0 where
