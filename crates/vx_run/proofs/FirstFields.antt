@@ -1,5 +1,5 @@
 -- What reads one token, one name or one element reads what spells it, and what spells it is read.
-use Rattle.std.proofs.Common.{◌≡◌, ◌≢◌, ℕ, zero, suc, ◌+◌, ◌<◌, ◌≤◌, Bool, true, false, cond, not, ltb, eqb, List, [], ◌∷◌, length, get_or, Option, Some, None, refl, sym, ap, subst, ◌∙◌, arith}
+use Rattle.std.proofs.Common.{◌≡◌, ℕ, zero, suc, ◌<◌, Bool, true, false, cond, not, ltb, List, [], ◌∷◌, length, get_or, Option, Some, None, refl, sym, ap, subst, ◌∙◌, arith}
 use Rattle.std.specs.Prelude.{codes, position}
 use Rattle.std.specs.List.{AllByRecursion, IsDistinct, position_or_len, prefix_len}
 use Rattle.std.specs.Str.{bytes_eq}
@@ -9,7 +9,7 @@ use Rattle.std.proofs.lemmas.Slice.Eq.{bytes_eq-Decides}
 use Rattle.vx_run.specs.declared.first.lexer.Token.{Token}
 use Rattle.vx_run.specs.declared.first.lexer.Token.TheVariants.{Name, Number, Mark}
 use Rattle.vx_run.specs.FirstText.{id_tokens, element_tokens, name_of, is_reserved}
-use Rattle.vx_run.specs.FirstReading.{Read, ◌>>=◌, token_eq, after, name_at, after_id, element_at}
+use Rattle.vx_run.specs.FirstReading.{◌>>=◌, token_eq, after, name_at, after_id, element_at}
 
 -- the value of a step that did not fail
 pub bind_some : {A B : Type 0} (o : Option A) (f : A → Option B) (y : B) → (o >>= f) ≡ Some y → (x : A) × (o ≡ Some x) × (f x ≡ Some y)
@@ -130,7 +130,7 @@ element_is names tokens x e =
     let s : d.0 ≡ Mark (codes "]") ∷ f.0 = after_is _ d.0 f.0 f.1 in
     let made : (b.0, f.0) ≡ x = cc in
     let whole : tokens ≡ element_tokens (name_of names b.0) f.0 =
-        p ∙ ap (λ (ts : List Token). Name a.0.0 ∷ ts) (q ∙ ap (λ (ts : List Token). Mark (codes "[") ∷ ts) (r ∙ ap id_tokens s)) ∙ ap (λ (name : List ℕ). element_tokens name f.0) (sym place.1) in
+    p ∙ ap (λ (ts : List Token). Name a.0.0 ∷ ts) (q ∙ ap (λ (ts : List Token). Mark (codes "[") ∷ ts) (r ∙ ap id_tokens s)) ∙ ap (λ (name : List ℕ). element_tokens name f.0) (sym place.1) in
     subst (λ (y : ℕ × List Token). (tokens ≡ element_tokens (name_of names y.0) y.1) × (y.0 < length names)) made (whole, place.0)
 
 pub element_again : (names : List (List ℕ)) (k : ℕ) (rest : List Token) → IsDistinct bytes_eq names → k < length names → element_at names (element_tokens (name_of names k) rest) ≡ Some (k, rest)

@@ -1,21 +1,15 @@
 -- What reads a kernel reads what spells it, and what spells it is read.
-use Rattle.std.proofs.Common.{◌≡◌, ℕ, zero, suc, ◌+◌, ◌<◌, ◌≤◌, max, Bool, true, false, ◌||◌, cond, leb, ltb, List, [], ◌∷◌, ◌++◌, length, Option, Some, None, refl, sym, ap, subst, ◌∙◌, ◌⊎◌, inl, inr, append_assoc, arith}
+use Rattle.std.proofs.Common.{◌≡◌, ℕ, zero, suc, ◌<◌, ◌≤◌, Bool, true, false, ◌||◌, cond, List, [], ◌∷◌, ◌++◌, length, Some, None, refl, sym, ap, subst, ◌∙◌, inl, inr, append_assoc, arith}
 use Rattle.std.specs.Prelude.{codes, option_map}
 use Rattle.std.specs.Option.{option_map_or}
 use Rattle.std.specs.List.{AllByRecursion, IsDistinct, list_any}
 use Rattle.std.specs.Str.{bytes_eq}
-use Rattle.std.proofs.lemmas.Bool.{leb-true, le-leb, ltb-false}
-use Rattle.std.proofs.lemmas.List.{append-nil, nil_from_length}
 use Rattle.vx_run.specs.declared.first.lexer.Token.{Token}
-use Rattle.vx_run.specs.declared.first.lexer.Token.TheVariants.{Name, Number, Mark}
-use Rattle.vx_run.specs.FirstTree.{Tree, Literal, OwnId, OwnElement, Grouped, Applied, Assigns, Form, height}
-use Rattle.vx_run.specs.FirstTokens.{tokens_of}
-use Rattle.vx_run.specs.FirstValues.{IsSumOf, IsAssignmentOf}
-use Rattle.vx_run.specs.FirstText.{id_tokens, element_tokens, name_of, sum_tokens, assignments_tokens, parameter_tokens, more_parameters_tokens, parameters_tokens, kernel_tokens, IsSumShaped, is_reserved, IsWellFormed, IsKernelText}
-use Rattle.vx_run.specs.FirstReading.{Read, ◌>>=◌, after, name_at, element_at, sum_at, assignment_at, assignments_at, parameter_at, parameters_at, kernel_name_at, form_at, form_of_tokens, form_of_text}
-use Rattle.vx_run.proofs.FirstFields.{bind_some, cond_some, cond_none, after_is, after_again, name_is, name_again, element_is, element_again}
-use Rattle.vx_run.proofs.FirstSums.{mapped, chosen, sum_spells}
-use Rattle.vx_run.proofs.FirstSumsAgain.{sum_again}
+use Rattle.vx_run.specs.declared.first.lexer.Token.TheVariants.{Name, Mark}
+use Rattle.vx_run.specs.FirstText.{parameter_tokens, more_parameters_tokens, parameters_tokens, is_reserved}
+use Rattle.vx_run.specs.FirstReading.{◌>>=◌, after, name_at, parameter_at, parameters_at}
+use Rattle.vx_run.proofs.FirstFields.{bind_some, cond_none, after_is, after_again, name_is, name_again}
+use Rattle.vx_run.proofs.FirstSums.{mapped, chosen}
 
 neither : (a b : Bool) → (a || b) ≡ false → (a ≡ false) × (b ≡ false)
 neither true b e = absurd cc
@@ -101,34 +95,34 @@ parameters_are (suc room) before tokens x e =
     let name : List ℕ = a.0.0 in
     elim (chosen (λ rest. parameters_at room (before ++ name ∷ []) rest) (after (Mark (codes ",")) a.0.1) (option_map (λ rest. (before ++ name ∷ [], rest)) (after (Mark (codes ")")) a.0.1)) (Some x) a.2) [
       | inl found ↦
-        let r = parameters_are room (before ++ name ∷ []) found.0 x found.2 in
-        let comma : a.0.1 ≡ Mark (codes ",") ∷ found.0 = after_is _ a.0.1 found.0 found.1 in
-        let more_parts : a.0.1 ≡ more_parameters_tokens r.more (Mark (codes ")") ∷ x.1) = comma ∙ ap (λ (ts : List Token). Mark (codes ",") ∷ ts) r.parts ∙ comma_more r.more (Mark (codes ")") ∷ x.1) r.some in
-        let split = apart_push before name r.more r.apart in
-        record {
-          more = name ∷ r.more;
-          together = r.together ∙ append_assoc before (name ∷ []) r.more;
-          parts = p.0 ∙ ap (parameter_tokens name) more_parts;
-          some = omega arith;
-          few = omega (arith, r.few);
-          free = (p.1, r.free);
-          apart = (p.2, split.0);
-          differ = (split.1, r.differ);
-        }
+          let r = parameters_are room (before ++ name ∷ []) found.0 x found.2 in
+          let comma : a.0.1 ≡ Mark (codes ",") ∷ found.0 = after_is _ a.0.1 found.0 found.1 in
+          let more_parts : a.0.1 ≡ more_parameters_tokens r.more (Mark (codes ")") ∷ x.1) = comma ∙ ap (λ (ts : List Token). Mark (codes ",") ∷ ts) r.parts ∙ comma_more r.more (Mark (codes ")") ∷ x.1) r.some in
+          let split = apart_push before name r.more r.apart in
+          record {
+            more = name ∷ r.more;
+            together = r.together ∙ append_assoc before (name ∷ []) r.more;
+            parts = p.0 ∙ ap (parameter_tokens name) more_parts;
+            some = omega arith;
+            few = omega (arith, r.few);
+            free = (p.1, r.free);
+            apart = (p.2, split.0);
+            differ = (split.1, r.differ);
+          }
       | inr none ↦
-        let g = mapped (λ (rest : List Token). (before ++ name ∷ [], rest)) (after (Mark (codes ")")) a.0.1) x none.1 in
-        let close : a.0.1 ≡ Mark (codes ")") ∷ g.0 = after_is _ a.0.1 g.0 g.1 in
-        subst (λ (y : List (List ℕ) × List Token). ParametersAre (suc room) before tokens y) g.2
-        (record {
-          more = name ∷ [];
-          together = refl;
-          parts = p.0 ∙ ap (parameter_tokens name) close;
-          some = omega arith;
-          few = omega arith;
-          free = (p.1, tt);
-          apart = (p.2, tt);
-          differ = (tt, tt);
-        })
+          let g = mapped (λ (rest : List Token). (before ++ name ∷ [], rest)) (after (Mark (codes ")")) a.0.1) x none.1 in
+          let close : a.0.1 ≡ Mark (codes ")") ∷ g.0 = after_is _ a.0.1 g.0 g.1 in
+          subst (λ (y : List (List ℕ) × List Token). ParametersAre (suc room) before tokens y) g.2
+          (record {
+            more = name ∷ [];
+            together = refl;
+            parts = p.0 ∙ ap (parameter_tokens name) close;
+            some = omega arith;
+            few = omega arith;
+            free = (p.1, tt);
+            apart = (p.2, tt);
+            differ = (tt, tt);
+          })
     ]
 
 no_comma : (rest : List Token) → after (Mark (codes ",")) (Mark (codes ")") ∷ rest) ≡ None

@@ -1,5 +1,5 @@
 -- Reading parameters and assignments one after the other, as loops do.
-use Rattle.std.proofs.Common.{◌≡◌, ℕ, zero, suc, ◌-◌, ◌+◌, ◌<◌, ◌≤◌, false, leb, List, [], ◌∷◌, ◌++◌, length, length-append, Option, Some, None, refl, sym, ap, ◌∙◌, arith}
+use Rattle.std.proofs.Common.{◌≡◌, ℕ, suc, ◌-◌, ◌+◌, ◌<◌, ◌≤◌, false, leb, List, [], ◌∷◌, ◌++◌, length, length-append, Option, Some, None, refl, sym, ◌∙◌, arith}
 use Rattle.std.specs.Prelude.{codes}
 use Rattle.std.proofs.lemmas.Bool.Decides.{nat_tests}
 use Rattle.vx_run.specs.declared.first.lexer.Token.{Token}
@@ -7,7 +7,7 @@ use Rattle.vx_run.specs.declared.first.lexer.Token.TheVariants.{Mark}
 use Rattle.vx_run.specs.declared.first.unread.Unread.{Unread}
 use Rattle.vx_run.specs.declared.first.unread.Unread.TheVariants.{Memory, OtherForm}
 use Rattle.vx_run.specs.FirstTree.{Tree, Literal, OwnId, OwnElement, Grouped, Applied, Assigns, height}
-use Rattle.vx_run.specs.FirstReading.{Fails, Read, ◌>>=◌, after, parameter_at, parameters_at, assignment_at, assignments_at}
+use Rattle.vx_run.specs.FirstReading.{Fails, Read, after, parameter_at, parameters_at, assignment_at, assignments_at}
 
 above_zero : (n : ℕ) → 0 < n → false ≡ leb n 0
 above_zero n some = grind (arith, nat_tests)

@@ -1,20 +1,17 @@
 -- What reads a sum reads what spells it, and what spells it is read.
-use Rattle.std.proofs.Common.{◌≡◌, ℕ, zero, suc, ◌+◌, ◌<◌, ◌≤◌, max, false, List, [], ◌∷◌, length, Option, Some, None, refl, sym, ap, subst, ◌∙◌, ◌⊎◌, inl, inr, arith}
+use Rattle.std.proofs.Common.{◌≡◌, ℕ, zero, suc, ◌≤◌, List, [], ◌∷◌, length, Option, Some, None, refl, ap, subst, ◌∙◌, ◌⊎◌, inl, inr, arith}
 use Rattle.std.specs.Prelude.{codes, option_map}
 use Rattle.std.specs.Option.{option_map_or}
-use Rattle.std.specs.List.{AllByRecursion, IsDistinct}
-use Rattle.std.specs.Fmt.{decimal}
-use Rattle.std.specs.Str.{bytes_eq}
 use Rattle.vx_run.specs.declared.first.lexer.Token.{Token}
 use Rattle.vx_run.specs.declared.first.lexer.Token.TheVariants.{Name, Number, Mark}
 use Rattle.vx_run.specs.declared.first.tree.Operator.{Operator}
 use Rattle.vx_run.specs.declared.first.tree.Operator.TheVariants.{Add, Subtract, Multiply}
-use Rattle.vx_run.specs.FirstTree.{Tree, Literal, OwnId, OwnElement, Grouped, Applied, height}
+use Rattle.vx_run.specs.FirstTree.{Tree, Literal, OwnId, OwnElement, Grouped, Applied}
 use Rattle.vx_run.specs.FirstValues.{IsSumOf}
-use Rattle.vx_run.specs.FirstText.{id_tokens, element_tokens, operator_token, name_of, sum_tokens, operator_rank, rank, IsSumShaped, is_reserved}
+use Rattle.vx_run.specs.FirstText.{operator_token, sum_tokens, operator_rank, rank, IsSumShaped}
 use Rattle.vx_run.specs.FirstReading.{Read, ◌>>=◌, after, after_id, element_at, literal_of, group_at, named_at, first_at, times_at, plus_at, chain_at, product_at, sum_at}
-use Rattle.vx_run.proofs.FirstLiterals.{literal_is, literal_spelled}
-use Rattle.vx_run.proofs.FirstFields.{bind_some, after_is, after_again, id_is, id_again, all_at, element_is, element_again, no_id}
+use Rattle.vx_run.proofs.FirstLiterals.{literal_is}
+use Rattle.vx_run.proofs.FirstFields.{bind_some, after_is, id_is, element_is}
 
 -- the tokens spell a sum that holds together at least so tightly, and then the rest
 pub record Spells (names : List (List ℕ)) (least : ℕ) (tokens : List Token) (t : Tree) (rest : List Token) : Type 0 where
@@ -53,12 +50,12 @@ unfolding named_at
 named_spells names tokens x e =
     elim (chosen (λ rest. Some (OwnId, rest)) (after_id tokens) (option_map (λ e. (OwnElement e.0, e.1)) (element_at names tokens)) (Some x) e) [
       | inl found ↦
-        let made : (OwnId, found.0) ≡ x = cc in
-        subst (λ (y : Tree × List Token). Spells names 2 tokens y.0 y.1) made (record { parts = id_is tokens found.0 found.1; of_names = tt; shaped = tt; tight = omega arith })
+          let made : (OwnId, found.0) ≡ x = cc in
+          subst (λ (y : Tree × List Token). Spells names 2 tokens y.0 y.1) made (record { parts = id_is tokens found.0 found.1; of_names = tt; shaped = tt; tight = omega arith })
       | inr none ↦
-        let g = mapped (λ (e : ℕ × List Token). (OwnElement e.0, e.1)) (element_at names tokens) x none.1 in
-        let p = element_is names tokens g.0 g.1 in
-        subst (λ (y : Tree × List Token). Spells names 2 tokens y.0 y.1) g.2 (record { parts = p.0; of_names = p.1; shaped = tt; tight = omega arith })
+          let g = mapped (λ (e : ℕ × List Token). (OwnElement e.0, e.1)) (element_at names tokens) x none.1 in
+          let p = element_is names tokens g.0 g.1 in
+          subst (λ (y : Tree × List Token). Spells names 2 tokens y.0 y.1) g.2 (record { parts = p.0; of_names = p.1; shaped = tt; tight = omega arith })
     ]
 
 first_spells : (names : List (List ℕ)) (inner : List Token → Read Tree) → ReadsSums names 0 inner → ReadsSums names 2 (first_at inner names)
@@ -86,11 +83,11 @@ unfolding plus_at
 plus_spell tokens x e =
     elim (chosen (λ rest. Some (Add, rest)) (after (Mark (codes "+")) tokens) (option_map (λ rest. (Subtract, rest)) (after (Mark (codes "-")) tokens)) (Some x) e) [
       | inl found ↦
-        let made : (Add, found.0) ≡ x = cc in
-        subst (λ (y : Operator × List Token). (tokens ≡ operator_token y.0 ∷ y.1) × (operator_rank y.0 ≡ 0)) made (after_is _ tokens found.0 found.1, refl)
+          let made : (Add, found.0) ≡ x = cc in
+          subst (λ (y : Operator × List Token). (tokens ≡ operator_token y.0 ∷ y.1) × (operator_rank y.0 ≡ 0)) made (after_is _ tokens found.0 found.1, refl)
       | inr none ↦
-        let g = mapped (λ (rest : List Token). (Subtract, rest)) (after (Mark (codes "-")) tokens) x none.1 in
-        subst (λ (y : Operator × List Token). (tokens ≡ operator_token y.0 ∷ y.1) × (operator_rank y.0 ≡ 0)) g.2 (after_is _ tokens g.0 g.1, refl)
+          let g = mapped (λ (rest : List Token). (Subtract, rest)) (after (Mark (codes "-")) tokens) x none.1 in
+          subst (λ (y : Operator × List Token). (tokens ≡ operator_token y.0 ∷ y.1) × (operator_rank y.0 ≡ 0)) g.2 (after_is _ tokens g.0 g.1, refl)
     ]
 
 module _ (names : List (List ℕ)) (least : ℕ) (operator : List Token → Read Operator) (operand : List Token → Read Tree) (start : List Token) where
@@ -101,21 +98,21 @@ module _ (names : List (List ℕ)) (least : ℕ) (operator : List Token → Read
   chain_spells operators operands (suc turns) left tokens x so_far e =
       elim (chosen (λ o. operand o.1 >>= λ right. chain_at operator operand turns (Applied o.0 left right.0) right.1) (operator tokens) (Some (left, tokens)) (Some x) e) [
         | inl found ↦
-          let o = found.0 in
-          let op = operators tokens o found.1 in
-          let b = bind_some (operand o.1) (λ right. chain_at operator operand turns (Applied o.0 left right.0) right.1) x found.2 in
-          let right = operands o.1 b.0 b.1 in
-          let whole : start ≡ sum_tokens names (Applied o.0 left b.0.0) b.0.1 = so_far.parts ∙ ap (sum_tokens names left) (op.0 ∙ ap (λ (ts : List Token). operator_token o.0 ∷ ts) right.parts) in
-          let grown : Spells names least start (Applied o.0 left b.0.0) b.0.1 = record {
-            parts = whole;
-            of_names = (so_far.of_names, right.of_names);
-            shaped = (omega (arith, op.1, so_far.tight), omega (arith, op.1, right.tight), so_far.shaped, right.shaped);
-            tight = omega (arith, op.1);
-          } in
-          chain_spells operators operands turns (Applied o.0 left b.0.0) b.0.1 x grown b.2
+            let o = found.0 in
+            let op = operators tokens o found.1 in
+            let b = bind_some (operand o.1) (λ right. chain_at operator operand turns (Applied o.0 left right.0) right.1) x found.2 in
+            let right = operands o.1 b.0 b.1 in
+            let whole : start ≡ sum_tokens names (Applied o.0 left b.0.0) b.0.1 = so_far.parts ∙ ap (sum_tokens names left) (op.0 ∙ ap (λ (ts : List Token). operator_token o.0 ∷ ts) right.parts) in
+            let grown : Spells names least start (Applied o.0 left b.0.0) b.0.1 = record {
+              parts = whole;
+              of_names = (so_far.of_names, right.of_names);
+              shaped = (omega (arith, op.1, so_far.tight), omega (arith, op.1, right.tight), so_far.shaped, right.shaped);
+              tight = omega (arith, op.1);
+            } in
+            chain_spells operators operands turns (Applied o.0 left b.0.0) b.0.1 x grown b.2
         | inr none ↦
-          let made : (left, tokens) ≡ x = cc in
-          subst (λ (y : Tree × List Token). Spells names least start y.0 y.1) made so_far
+            let made : (left, tokens) ≡ x = cc in
+            subst (λ (y : Tree × List Token). Spells names least start y.0 y.1) made so_far
       ]
 
 less_tight : (names : List (List ℕ)) (least : ℕ) (tokens : List Token) (t : Tree) (rest : List Token) → Spells names (suc least) tokens t rest → Spells names least tokens t rest

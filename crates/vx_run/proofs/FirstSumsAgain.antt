@@ -1,17 +1,17 @@
 -- What spells a sum is read.
-use Rattle.std.proofs.Common.{◌≡◌, ℕ, zero, suc, ◌+◌, ◌-◌, ◌<◌, ◌≤◌, max, false, List, [], ◌∷◌, length, Option, Some, None, refl, sym, ap, ◌∙◌, arith, add-zero}
+use Rattle.std.proofs.Common.{◌≡◌, ℕ, zero, suc, ◌+◌, ◌-◌, ◌<◌, ◌≤◌, false, List, [], ◌∷◌, length, Some, None, refl, ap, ◌∙◌, arith}
 use Rattle.std.specs.Prelude.{codes}
 use Rattle.std.specs.List.{AllByRecursion, IsDistinct}
 use Rattle.std.specs.Fmt.{decimal}
 use Rattle.std.specs.Str.{bytes_eq}
 use Rattle.vx_run.specs.declared.first.lexer.Token.{Token}
-use Rattle.vx_run.specs.declared.first.lexer.Token.TheVariants.{Name, Number, Mark}
+use Rattle.vx_run.specs.declared.first.lexer.Token.TheVariants.{Mark}
 use Rattle.vx_run.specs.declared.first.tree.Operator.{Operator}
 use Rattle.vx_run.specs.declared.first.tree.Operator.TheVariants.{Add, Subtract, Multiply}
 use Rattle.vx_run.specs.FirstTree.{Tree, Literal, OwnId, OwnElement, Grouped, Applied, height}
 use Rattle.vx_run.specs.FirstValues.{IsSumOf}
-use Rattle.vx_run.specs.FirstText.{id_tokens, element_tokens, operator_token, name_of, sum_tokens, operator_rank, rank, IsSumShaped, is_reserved}
-use Rattle.vx_run.specs.FirstReading.{Read, ◌>>=◌, after, after_id, element_at, literal_of, group_at, named_at, first_at, times_at, plus_at, chain_at, product_at, sum_at}
+use Rattle.vx_run.specs.FirstText.{id_tokens, operator_token, name_of, sum_tokens, operator_rank, rank, IsSumShaped, is_reserved}
+use Rattle.vx_run.specs.FirstReading.{Read, ◌>>=◌, after, group_at, named_at, first_at, times_at, plus_at, chain_at, product_at, sum_at}
 use Rattle.vx_run.proofs.FirstLiterals.{literal_spelled}
 use Rattle.vx_run.proofs.FirstFields.{after_again, id_again, all_at, element_again, no_id}
 

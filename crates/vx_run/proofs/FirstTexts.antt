@@ -1,22 +1,21 @@
 -- The two laws: what is read of a text is spelled so, and what is spelled so is read.
-use Rattle.std.proofs.Common.{◌≡◌, ℕ, zero, suc, ◌+◌, ◌<◌, ◌≤◌, max, Bool, true, false, cond, leb, ltb, List, [], ◌∷◌, ◌++◌, length, Option, Some, None, refl, sym, ap, subst, ◌∙◌, inl, inr, append_assoc, arith}
+use Rattle.std.proofs.Common.{◌≡◌, ℕ, zero, suc, ◌+◌, ◌<◌, ◌≤◌, false, cond, leb, ltb, List, [], ◌∷◌, ◌++◌, length, Option, Some, None, refl, sym, ap, subst, ◌∙◌, inl, inr, append_assoc, arith}
 use Rattle.std.specs.Prelude.{codes}
-use Rattle.std.specs.Option.{option_map_or}
 use Rattle.std.specs.List.{AllByRecursion, IsDistinct}
 use Rattle.std.specs.Str.{bytes_eq}
 use Rattle.std.proofs.lemmas.Bool.{leb-true, le-leb, ltb-false}
 use Rattle.std.proofs.lemmas.List.{append-nil, nil_from_length}
 use Rattle.vx_run.specs.declared.first.lexer.Token.{Token}
-use Rattle.vx_run.specs.declared.first.lexer.Token.TheVariants.{Name, Number, Mark}
+use Rattle.vx_run.specs.declared.first.lexer.Token.TheVariants.{Name, Mark}
 use Rattle.vx_run.specs.FirstTree.{Tree, Literal, OwnId, OwnElement, Grouped, Applied, Assigns, Form, height}
 use Rattle.vx_run.specs.FirstTokens.{tokens_of}
-use Rattle.vx_run.specs.FirstValues.{IsSumOf, IsAssignmentOf}
+use Rattle.vx_run.specs.FirstValues.{IsAssignmentOf}
 use Rattle.vx_run.specs.FirstText.{element_tokens, operator_token, name_of, sum_tokens, assignments_tokens, parameters_tokens, kernel_tokens, IsSumShaped, is_reserved, IsWellFormed, IsKernelText}
-use Rattle.vx_run.specs.FirstReading.{Read, ◌>>=◌, after, name_at, element_at, sum_at, assignment_at, assignments_at, parameters_at, kernel_name_at, form_at, form_of_tokens, form_of_text}
+use Rattle.vx_run.specs.FirstReading.{◌>>=◌, after, name_at, element_at, sum_at, assignment_at, assignments_at, parameters_at, kernel_name_at, form_at, form_of_tokens, form_of_text}
 use Rattle.vx_run.proofs.FirstFields.{bind_some, cond_some, cond_none, after_is, after_again, name_is, name_again, element_is, element_again}
 use Rattle.vx_run.proofs.FirstSums.{chosen, sum_spells}
 use Rattle.vx_run.proofs.FirstSumsAgain.{sum_again}
-use Rattle.vx_run.proofs.FirstKernels.{AreApart, apart_none, parameters_are, parameters_again}
+use Rattle.vx_run.proofs.FirstKernels.{apart_none, parameters_are, parameters_again}
 
 -- an assignment, and then the rest
 abbrev assignment_tokens : List (List ℕ) → Assigns → List Token → List Token
@@ -63,21 +62,21 @@ assignments_are names zero before tokens x e = absurd cc
 assignments_are names (suc turns) before tokens x e =
     elim (chosen (λ rest. Some (before, rest)) (after (Mark (codes "}")) tokens) (assignment_at names tokens >>= λ a. assignments_at names turns (before ++ a.0 ∷ []) a.1) (Some x) e) [
       | inl found ↦
-        let made : (before, found.0) ≡ x = cc in
-        subst (λ (y : List Assigns × List Token). AssignmentsAre names before tokens y) made
-        (record { more = []; together = sym (append-nil before); parts = after_is _ tokens found.0 found.1; of_names = tt; shaped = tt; low = tt })
+          let made : (before, found.0) ≡ x = cc in
+          subst (λ (y : List Assigns × List Token). AssignmentsAre names before tokens y) made
+          (record { more = []; together = sym (append-nil before); parts = after_is _ tokens found.0 found.1; of_names = tt; shaped = tt; low = tt })
       | inr none ↦
-        let a = bind_some (assignment_at names tokens) (λ a. assignments_at names turns (before ++ a.0 ∷ []) a.1) x none.1 in
-        let p = assignment_is names tokens a.0 a.1 in
-        let r = assignments_are names turns (before ++ a.0.0 ∷ []) a.0.1 x a.2 in
-        record {
-          more = a.0.0 ∷ r.more;
-          together = r.together ∙ append_assoc before (a.0.0 ∷ []) r.more;
-          parts = p.0 ∙ ap (assignment_tokens names a.0.0) r.parts;
-          of_names = (p.1.of_names, r.of_names);
-          shaped = (p.1.shaped, r.shaped);
-          low = (p.1.low, r.low);
-        }
+          let a = bind_some (assignment_at names tokens) (λ a. assignments_at names turns (before ++ a.0 ∷ []) a.1) x none.1 in
+          let p = assignment_is names tokens a.0 a.1 in
+          let r = assignments_are names turns (before ++ a.0.0 ∷ []) a.0.1 x a.2 in
+          record {
+            more = a.0.0 ∷ r.more;
+            together = r.together ∙ append_assoc before (a.0.0 ∷ []) r.more;
+            parts = p.0 ∙ ap (assignment_tokens names a.0.0) r.parts;
+            of_names = (p.1.of_names, r.of_names);
+            shaped = (p.1.shaped, r.shaped);
+            low = (p.1.low, r.low);
+          }
     ]
 
 no_brace : (name : List ℕ) (rest : List Token) → after (Mark (codes "}")) (element_tokens name rest) ≡ None

@@ -37,3 +37,4 @@ pub mod FirstRuns
 pub mod LaunchLaws
 pub mod OneOutcome
 pub mod AnswerLaws
+pub mod FirstExamples

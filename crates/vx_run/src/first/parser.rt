@@ -474,3 +474,6 @@ pub fn parse_kernel(alloc: Global, source: &[u8]) -> Result<Option<Kernel>, Memo
         Err(Unread::Memory) => Err(Memory),
     }
 }
+
+#[cfg(test)]
+mod tests;

@@ -1,4 +1,3 @@
-use Rattle.std.proofs.Common.{sym}
 use Rattle.vx_run.specs.FirstTree.{tree_of}
 use Rattle.vx_run.proofs.FirstLoops.{height_some}
 use Rattle.vx_run.proofs.first.parser.+is_within.Goals as goal

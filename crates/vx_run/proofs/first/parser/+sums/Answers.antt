@@ -1,6 +1,5 @@
-use Rattle.std.proofs.Common.{◌≡◌, sym, arith}
+use Rattle.std.proofs.Common.{◌≡◌, sym}
 use Rattle.std.proofs.lemmas.Result.{err_from_is_err_and}
-use Rattle.vx_run.specs.declared.first.tree.Operator.{Operator}
 use Rattle.vx_run.specs.FirstTree.{Applied, tree_of}
 use Rattle.vx_run.specs.FirstReading.{times_at, plus_at, first_at, product_at, sum_at, chain_at}
 use Rattle.vx_run.proofs.FirstChains.{goes_on, ends, fails, runs_out, sum_at_zero, some_is}

@@ -1,4 +1,4 @@
-use Rattle.std.proofs.Common.{◌≡◌, sym, ◌∙◌, arith}
+use Rattle.std.proofs.Common.{sym, ◌∙◌, arith}
 use Rattle.vx_run.proofs.FirstLiterals.{literal_spelled, literal_large, literal_none}
 use Rattle.vx_run.proofs.first.parser.literal_of.Goals as goal
 

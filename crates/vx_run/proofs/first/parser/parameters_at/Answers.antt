@@ -1,8 +1,6 @@
-use Rattle.std.proofs.Common.{◌≡◌, ◌≤◌, [], ◌∷◌, ◌++◌, length, Some, None, sym, ap, ◌∙◌, arith}
-use Rattle.std.specs.Prelude.{codes}
+use Rattle.std.proofs.Common.{◌≡◌, [], ◌∷◌, ◌++◌, Some, sym, ap, ◌∙◌}
 use Rattle.std.proofs.lemmas.Result.{err_from_is_err_and}
-use Rattle.vx_run.specs.declared.first.lexer.Token.TheVariants.{Mark}
-use Rattle.vx_run.specs.FirstReading.{after, parameter_at, parameters_at}
+use Rattle.vx_run.specs.FirstReading.{parameter_at, parameters_at}
 use Rattle.vx_run.proofs.FirstLoops.{no_parameter, another_parameter, last_parameter, unclosed_parameter, many_parameters, fails_none, one_more}
 use Rattle.vx_run.proofs.first.parser.parameters_at.Goals as goal
 use Rattle.vx_run.proofs.first.parser.parameters_at.Goals.{In_ok-name, In_ok-push}
