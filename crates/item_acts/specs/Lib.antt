@@ -1,3 +1,4 @@
 pub mod Machine
 pub mod Launches
 pub mod Tame
+pub mod Examples

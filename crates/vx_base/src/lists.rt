@@ -27,6 +27,13 @@ impl<T> ListOf<T> {
         self.items.len()
     }
 
+    /// The elements in order.
+    pub fn as_slice(&self) -> &[T]
+        ensures { result.now ≡ self.now }
+    {
+        self.items.as_slice()
+    }
+
     /// The element at a place from 0, and None behind the last.
     pub fn get(&self, i: usize) -> Option<&T>
         ensures value { option_copied result ≡ slice_get self.now i }

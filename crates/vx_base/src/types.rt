@@ -1,6 +1,8 @@
 ghost use Rattle.std.specs.Prelude.{Some};
+ghost use Rattle.vx_base.specs.Texts.{pos_text};
 ghost use Rattle.vx_base.specs.Values.{elem_name};
 
+use std::alloc::{AllocError, AllocFailed};
 use std::fmt;
 
 /// Memory ran out. What a call leaves then is said at that call.
@@ -110,6 +112,32 @@ pub enum ParamKind {
         /// Whether no store to it is accepted.
         readonly: bool,
     },
+}
+
+impl From<AllocError> for Memory {
+    ghost from_gives = { λ _ _. Unit {0} };
+
+    fn from(_fault: AllocError) -> Memory {
+        Memory
+    }
+}
+
+impl<T: Drop> From<AllocFailed<T>> for Memory {
+    ghost from_gives = { λ _ _. Unit {0} };
+
+    fn from(_fault: AllocFailed<T>) -> Memory {
+        Memory
+    }
+}
+
+impl fmt::Display for Pos {
+    ghost output = { λ pos. Some (pos_text pos) };
+
+    fn fmt<W: fmt::Write>(&self, f: &mut fmt::Formatter<W>) -> fmt::Result {
+        let line = self.line;
+        let col = self.col;
+        write!(f, "{line}:{col}")
+    }
 }
 
 impl fmt::Display for Elem {

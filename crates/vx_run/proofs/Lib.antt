@@ -4,3 +4,13 @@ pub mod FirstTogether
 pub mod FirstEmit
 pub mod FirstCorrect
 pub mod FirstRuns
+pub mod DeliveryLaws
+pub mod OutputLaws
+pub mod ReadingLaws
+pub mod LoadingLaws
+pub mod FirstLaunchItem
+pub mod FirstLaunchBytes
+pub mod FirstLaunchState
+pub mod FirstLaunchTame
+pub mod FirstLaunchLeaves
+pub mod FirstLaunchExamples

@@ -1,4 +1,7 @@
 use Rattle.std.specs.Prelude.{ℕ, ◌+◌, ◌-◌, ◌*◌, ◌%◌, ◌^◌, List, [], ◌∷◌, replicate, slice_index}
+use Rattle.vx_base.specs.Values.{alu_value_of}
+use Rattle.vx_base.specs.declared.types.Alu.{Alu}
+use Rattle.vx_base.specs.declared.types.Alu.TheVariants as alu
 use Rattle.vx_base.specs.declared.types.Size.TheVariants.{Four}
 use Rattle.item_acts.specs.declared.acts.Place.TheVariants.{Global}
 use Rattle.item_acts.specs.declared.acts.Action.TheVariants.{Load, Store, End}
@@ -30,11 +33,14 @@ abbrev pub body_tasks : List Assigns → List Task
 body_tasks [] = []
 body_tasks (a ∷ more) = TakeId ∷ evaluation a.value (StoreTo a.parameter ∷ body_tasks more)
 
--- the value of an operator on 32-bit words (OpenCL C 1.2, section 6.3; signed sums wrap)
+abbrev pub alu_of : Operator → Alu
+alu_of Add = alu.Add
+alu_of Subtract = alu.Sub
+alu_of Multiply = alu.Mul
+
+-- the value of an operator on 32-bit words (OpenCL C 1.2, section 6.3; sums wrap)
 abbrev pub operated : Operator → ℕ → ℕ → ℕ
-operated Add a b = (a + b) % 2 ^ 32
-operated Subtract a b = (a + (2 ^ 32 - b)) % 2 ^ 32
-operated Multiply a b = a * b % 2 ^ 32
+operated op a b = alu_value_of (alu_of op) a b
 
 -- a work-item: what is left to do, and the values that it holds, the last one first
 pub record Item : Type 0 where

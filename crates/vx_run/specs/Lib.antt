@@ -2,9 +2,14 @@ pub mod FirstTree
 pub mod Names
 pub mod FirstText
 pub mod Words
+pub mod Lines
 pub mod First
 pub mod FirstValues
 pub mod FirstMemory
 pub mod FirstLane
 pub mod FirstWarp
 pub mod FirstCode
+pub mod Delivery
+pub mod Output
+pub mod Answers
+pub mod Stages

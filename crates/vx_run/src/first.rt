@@ -4,6 +4,7 @@
 //! `specs/First.antt` for what a work-item does.
 
 pub mod code;
+pub mod laws;
 pub mod run;
 pub mod tree;
 pub mod warp;

@@ -6,3 +6,10 @@
 
 pub mod first;
 pub mod words;
+pub mod loading;
+pub mod reading;
+pub mod stages;
+pub mod deliver;
+pub mod output;
+pub mod report;
+pub mod lines;

@@ -34,3 +34,12 @@ pub struct RunWords {
     /// The number of the buffer that each `show` names.
     pub shows: ListOf<u32>,
 }
+
+/// Why the words of the command line are refused.
+#[derive(Clone, Copy, Debug, PartialEq, Eq)]
+pub enum UsageKind {
+    /// The first word is absent or no command.
+    Command,
+    /// The words do not fit the command's form.
+    Form,
+}

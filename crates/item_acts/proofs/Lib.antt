@@ -1,0 +1,3 @@
+pub mod Machine
+pub mod Launches
+pub mod Examples

@@ -1,0 +1,72 @@
+use Rattle.std.specs.Prelude.{◌≡◌, ℕ, ◌*◌, ◌<◌, ◌≤◌, take, Some, None, List, Option, Result, Ok, Err, length, slice_index}
+use Rattle.vx_world.specs.Counts.{Rose}
+use Rattle.vx_run.specs.declared.report.Cause.TheVariants as cause
+use Rattle.vx_run.specs.declared.report.Cause.{Cause}
+use Rattle.vx_run.specs.declared.stages.Stop.{Stop}
+use Rattle.vx_run.specs.declared.stages.Stop.TheVariants.{Refused, Memory}
+use Rattle.vx_world.specs.declared.reading.Entry.{Entry}
+use Rattle.vx_run.specs.Answers.{Outcome, Refuses, Prints, Holds}
+
+-- a refusal is one that the call may come to; a read fault is one read that failed
+abbrev pub IsRefusal : (Outcome → Type 0) → Cause → Type 0
+IsRefusal Comes (cause.ReadFault faults) = faults ≡ 1
+IsRefusal Comes c = Comes (Refuses c)
+
+-- what stops a call is a refusal that it may come to, or want of memory
+abbrev pub StopsAt : (Outcome → Type 0) → Stop → Type 0
+StopsAt Comes (Refused c) = IsRefusal Comes c
+StopsAt Comes Memory = Unit {0}
+
+-- a text is one that the call may come to print, and what stops it is a refusal that it may come to
+abbrev pub ComesTo : (Outcome → Type 0) → Result (List ℕ) Stop → Type 0
+ComesTo Comes (Ok text) = Comes (Prints text)
+ComesTo Comes (Err stop) = StopsAt Comes stop
+
+-- what a refusal says of the count of read faults, and of the count of names that were not found
+abbrev pub CausesFaults : Cause → ℕ → ℕ → Type 0
+CausesFaults (cause.ReadFault faults) before now = Rose before now
+CausesFaults c before now = now ≡ before
+
+abbrev pub CausesMisses : Cause → ℕ → ℕ → Type 0
+CausesMisses (cause.Missing name) before now = Rose before now
+CausesMisses c before now = now ≡ before
+
+-- the counts rise only where a read failed, and where a name was not found; memory may run out behind that
+abbrev pub StopFaults : Stop → ℕ → ℕ → Type 0
+StopFaults (Refused c) before now = CausesFaults c before now
+StopFaults Memory before now = before ≤ now
+
+abbrev pub StopMisses : Stop → ℕ → ℕ → Type 0
+StopMisses (Refused c) before now = CausesMisses c before now
+StopMisses Memory before now = before ≤ now
+
+abbrev pub StageFaults : {X : Type 0} → Result X Stop → ℕ → ℕ → Type 0
+StageFaults (Ok value) before now = now ≡ before
+StageFaults (Err stop) before now = StopFaults stop before now
+
+abbrev pub StageMisses : {X : Type 0} → Result X Stop → ℕ → ℕ → Type 0
+StageMisses (Ok value) before now = now ≡ before
+StageMisses (Err stop) before now = StopMisses stop before now
+
+-- the elements of a list of bytes
+abbrev pub AreBytes : List ℕ → Type 0
+AreBytes bytes = (k : ℕ) → slice_index bytes k < 256
+
+-- these are the first bytes of the file of a name, at most so many
+pub record ReadsFront (held : Option (List Entry)) (name : List ℕ) (most : ℕ) (bytes : List ℕ) : Type 0 where
+  pub whole : List ℕ
+  pub holds : Holds held name (Some whole)
+  pub front : take most whole ≡ bytes
+
+-- a file that is not read is not there, or its read failed
+abbrev pub StopsReading : Option (List Entry) → List ℕ → Stop → Type 0
+StopsReading held name (Refused (cause.Missing missing)) = (missing ≡ name) × Holds held name None
+StopsReading held name (Refused (cause.ReadFault faults)) = faults ≡ 1
+StopsReading held name (Refused c) = ⊥
+StopsReading held name Memory = Unit {0}
+
+-- a refusal for want of the file of this name, or want of memory
+abbrev pub IsMissingOf : List ℕ → Stop → Type 0
+IsMissingOf name (Refused (cause.Missing missing)) = missing ≡ name
+IsMissingOf name (Refused c) = ⊥
+IsMissingOf name Memory = Unit {0}

@@ -1,0 +1,2 @@
+pub mod SourceBytes
+pub mod WritingLemmas
