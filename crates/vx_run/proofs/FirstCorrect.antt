@@ -122,12 +122,12 @@ applied_leaves items buffers lane op depth a b left_code right_code s left right
     record {
       registers = t.registers;
       goes =
-        goes_append items buffers lane left_code (right_code ++ operator_code op depth ∷ []) s s1 t left.goes
-        (goes_append items buffers lane right_code (operator_code op depth ∷ []) s1 s2 t right.goes (t, step, refl {a = t}));
+          goes_append items buffers lane left_code (right_code ++ operator_code op depth ∷ []) s s1 t left.goes
+          (goes_append items buffers lane right_code (operator_code op depth ∷ []) s1 s2 t right.goes (t, step, refl {a = t}));
       has =
-        put_at-same rd value right.registers rd refl
-        ∙ ap (λ (x : ℕ). operated op x (right.registers (value_register (depth + 1)))) first
-        ∙ ap (λ (y : ℕ). operated op a y) right.has;
+          put_at-same rd value right.registers rd refl
+          ∙ ap (λ (x : ℕ). operated op x (right.registers (value_register (depth + 1)))) first
+          ∙ ap (λ (y : ℕ). operated op a y) right.has;
       lower = λ r less. kept rd value right.registers r less ∙ right.lower r (omega arith) ∙ left.lower r less;
     }
 
