@@ -1,6 +1,5 @@
 use Rattle.std.specs.Prelude.{ℕ, ◌+◌, ◌*◌, ◌/◌, ◌%◌, ◌^◌, Bool, true, false, not, nat_eq}
 use Rattle.vx_base.specs.Values.{alu_value_of}
-use Rattle.vx_base.specs.declared.types.Alu.{Alu}
 use Rattle.vx_base.specs.declared.types.Alu.TheVariants as alu
 use Rattle.vx_base.specs.declared.types.Size.TheVariants.{One, Two, Four}
 use Rattle.vx_isa.specs.declared.instr.Instr.{Instr}

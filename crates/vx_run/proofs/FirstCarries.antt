@@ -1,10 +1,9 @@
 -- What a lane makes by itself, it makes among the others.
-use Rattle.std.proofs.Common.{◌≡◌, ◌≢◌, ℕ, suc, ◌+◌, ◌-◌, ◌*◌, ◌%◌, ◌^◌, ◌<◌, ◌≤◌, ◌⊎◌, inl, inr, Bool, cond, eqb, leb, ◌&&◌, List, length, get_or, set, Option, Some, None, Result, Ok, Err, MatchResult, refl, ap, sym, ◌∙◌, subst, arith}
+use Rattle.std.proofs.Common.{◌≡◌, ◌≢◌, ℕ, ◌+◌, ◌-◌, ◌*◌, ◌%◌, ◌^◌, ◌<◌, ◌≤◌, ◌⊎◌, inl, inr, eqb, leb, ◌&&◌, List, length, get_or, set, Option, Some, None, Result, Ok, Err, MatchResult, refl, ap, sym, ◌∙◌, subst, arith}
 use Rattle.std.specs.Result.{IsOk}
 use Rattle.std.proofs.lemmas.Bool.{cases_eq, cond-true, cond-false, eq-eqb, ne_eqb, le-leb, and_from}
 use Rattle.std.proofs.lemmas.List.{get_or-set_same, get_or-set_other}
 use Rattle.vx_base.specs.Bytes.{field_of, with_field}
-use Rattle.vx_base.specs.declared.types.Size.{Size}
 use Rattle.vx_base.specs.declared.types.Size.TheVariants.{One, Two, Four}
 use Rattle.vx_base.proofs.FieldLaws.{field_of-with_field, field_of-with_field_apart}
 use Rattle.item_acts.specs.Launches.{put_at}
@@ -16,7 +15,7 @@ use Rattle.vx_isa.specs.Operands.{rs1_of, rs2_of}
 use Rattle.vx_run.specs.declared.first.warp.Lane.{Lane}
 use Rattle.vx_run.specs.declared.first.warp.WarpFault.{WarpFault}
 use Rattle.vx_run.specs.FirstMemory.{stride, element_at}
-use Rattle.vx_run.specs.FirstLane.{Alone, memory_start, own_address, IsOwn, Sets, Makes, Steps}
+use Rattle.vx_run.specs.FirstLane.{Alone, memory_start, Sets, Makes}
 use Rattle.vx_run.specs.FirstWarp.{Held, held, place_in, set_register, with_register, loaded, stored, with_memory, carried, StandsAs, OthersKeep, StepAmongOthers}
 use Rattle.vx_run.proofs.FirstElements.{stride-enough, element_inside, elements_apart}
 

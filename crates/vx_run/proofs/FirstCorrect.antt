@@ -1,22 +1,21 @@
 -- The code of a kernel leaves in a lane's own elements what the kernel's assignments do.
-use Rattle.std.proofs.Common.{◌≡◌, ◌≢◌, ℕ, zero, suc, ◌+◌, ◌-◌, ◌*◌, ◌/◌, ◌%◌, ◌^◌, ◌<◌, ◌≤◌, inl, inr, List, [], ◌∷◌, ◌++◌, length, get_or, map, refl, ap, sym, ◌∙◌, subst, arith, append_assoc}
-use Rattle.std.specs.Prelude.{max, slice_index}
+use Rattle.std.proofs.Common.{◌≡◌, ℕ, zero, suc, ◌+◌, ◌-◌, ◌*◌, ◌%◌, ◌^◌, ◌<◌, ◌≤◌, inl, inr, List, [], ◌∷◌, ◌++◌, length, get_or, map, refl, ap, sym, ◌∙◌, subst, arith, append_assoc}
+use Rattle.std.specs.Prelude.{slice_index}
 use Rattle.std.specs.List.{All, AllByRecursion}
 use Rattle.std.proofs.Math.Nat.{mul-le-mul_left, mod-eq_of_lt}
 use Rattle.std.proofs.lemmas.Bool.{cases_eq}
-use Rattle.std.proofs.lemmas.Int.{ints}
 use Rattle.vx_base.specs.Values.{alu_value_of}
 use Rattle.vx_base.specs.declared.types.Alu.TheVariants as alu
+use Rattle.vx_base.proofs.ValueLaws.{alu_value_of-lt}
 use Rattle.item_acts.specs.Launches.{put_at}
 use Rattle.vx_isa.specs.declared.instr.Instr.{Instr}
-use Rattle.vx_isa.specs.declared.instr.Instr.TheVariants.{Csrr, Slli, Lui, Sw, Tmc}
+use Rattle.vx_isa.specs.declared.instr.Instr.TheVariants.{Lui, Sw, Tmc}
+use Rattle.vx_isa.specs.declared.instr.Instr.TheVariants as instr
 use Rattle.vx_isa.specs.Effects.{address_at}
 use Rattle.vx_run.specs.declared.first.tree.Operator.{Operator}
 use Rattle.vx_run.specs.declared.first.tree.Operator.TheVariants.{Add, Subtract, Multiply}
 use Rattle.vx_run.specs.FirstTree.{Tree, Literal, OwnId, OwnElement, Grouped, Applied, Assigns, Form, height}
-use Rattle.vx_base.proofs.ValueLaws.{word_of-lt}
-use Rattle.std.specs.Prelude.{pos, ◌-ℤ◌}
-use Rattle.vx_run.specs.First.{operated, array_of}
+use Rattle.vx_run.specs.First.{alu_of, operated, array_of}
 use Rattle.vx_run.specs.FirstValues.{value_of, words_after, IsSumOf, IsAssignmentOf, IsLaunchable}
 use Rattle.vx_run.specs.FirstMemory.{stride}
 use Rattle.vx_run.specs.FirstLane.{Alone, memory_start, own_address, IsOwn, Sets, Steps, Goes, Ends}
@@ -35,14 +34,15 @@ pub ends_behind : (items buffers lane : ℕ) (code : List Instr) (s t : Alone) �
 ends_behind items buffers lane [] s t same = inl (refl, same)
 ends_behind items buffers lane (i ∷ code) s t goes = inr (goes.0, goes.1, ends_behind items buffers lane code goes.0 t goes.2)
 
--- the three operators are those of the machine
-difference : (a b : ℕ) → a < 2 ^ 32 → b < 2 ^ 32 → operated Subtract a b ≡ alu_value_of alu.Sub a b
-difference a b small small' = grind (arith, ints)
+-- the operators are those of the machine
+sum_is : (a b : ℕ) → operated Add a b ≡ alu_value_of alu.Add a b
+sum_is a b = refl
 
-operated-lt : (op : Operator) (a b : ℕ) → operated op a b < 2 ^ 32
-operated-lt Add a b = omega arith
-operated-lt Subtract a b = word_of-lt (pos a -ℤ pos b)
-operated-lt Multiply a b = omega arith
+difference_is : (a b : ℕ) → operated Subtract a b ≡ alu_value_of alu.Sub a b
+difference_is a b = refl
+
+product_is : (a b : ℕ) → operated Multiply a b ≡ alu_value_of alu.Mul a b
+product_is a b = refl
 
 -- lui and addi make a number of its parts
 number_made : (n : ℕ) → n < 2 ^ 31 → (high_part n * 2 ^ 12 % 2 ^ 32 + low_part n) % 2 ^ 32 ≡ n
@@ -60,7 +60,8 @@ value_of-lt own item parameters (Literal n) small words sum = let below : n < 2 
 value_of-lt own item parameters OwnId small words sum = small
 value_of-lt own item parameters (OwnElement p) small words sum = words p
 value_of-lt own item parameters (Grouped t) small words sum = value_of-lt own item parameters t small words sum
-value_of-lt own item parameters (Applied op l r) small words sum = operated-lt op (value_of own item l) (value_of own item r)
+value_of-lt own item parameters (Applied op l r) small words sum =
+    alu_value_of-lt (alu_of op) (value_of own item l) (value_of own item r) (value_of-lt own item parameters l small words sum.0) (value_of-lt own item parameters r small words sum.1)
 
 -- the registers that code of sums reads are set
 pub record IsReady (lane : ℕ) (registers : ℕ → ℕ) : Type 0 where
@@ -74,6 +75,17 @@ pub record Leaves (items buffers lane depth value : ℕ) (code : List Instr) (s 
   pub has : registers (value_register depth) ≡ value
   pub lower : (r : ℕ) → r < value_register depth → registers r ≡ s.registers r
 
+-- the lane with a value in a register
+abbrev with_value : ℕ → ℕ → Alone → Alone
+with_value rd value s = record { registers = put_at rd value s.registers; words = s.words }
+
+sets : (rd value : ℕ) (s : Alone) → 0 < rd → rd < 32 → Sets rd value s (with_value rd value s)
+sets rd value s above below = record { above_zero = above; is_register = below; then = refl }
+
+-- registers below that of a depth keep their values where a value is put there
+kept : (rd value : ℕ) (registers : ℕ → ℕ) (r : ℕ) → r < rd → put_at rd value registers r ≡ registers r
+kept rd value registers r less = put_at-other rd value registers r (λ e. omega arith)
+
 still_ready : (lane depth : ℕ) (before after : ℕ → ℕ) → ((r : ℕ) → r < value_register depth → after r ≡ before r) → IsReady lane before → IsReady lane after
 still_ready lane depth before after lower ready = record {
   number = lower number_register (omega arith) ∙ ready.number;
@@ -81,15 +93,43 @@ still_ready lane depth before after lower ready = record {
 }
 
 -- an operator acts on the values at a depth and at the next
-operator_steps : (items buffers lane depth : ℕ) (op : Operator) (s t : Alone) → s.registers (value_register depth) < 2 ^ 32 →
-    s.registers (value_register (depth + 1)) < 2 ^ 32 →
+operator_steps : (items buffers lane depth : ℕ) (op : Operator) (s t : Alone) →
     Sets (value_register depth) (operated op (s.registers (value_register depth)) (s.registers (value_register (depth + 1)))) s t →
     Steps items buffers lane (operator_code op depth) s t
-operator_steps items buffers lane depth Add s t small small' sets pc = sets
-operator_steps items buffers lane depth Subtract s t small small' sets pc =
+operator_steps items buffers lane depth Add s t sets pc =
     let P : ℕ → Type 0 = λ v. Sets (value_register depth) v s t in
-    subst P (difference (s.registers (value_register depth)) (s.registers (value_register (depth + 1))) small small') sets
-operator_steps items buffers lane depth Multiply s t small small' sets pc = sets
+    subst P (sum_is (s.registers (value_register depth)) (s.registers (value_register (depth + 1)))) sets
+operator_steps items buffers lane depth Subtract s t sets pc =
+    let P : ℕ → Type 0 = λ v. Sets (value_register depth) v s t in
+    subst P (difference_is (s.registers (value_register depth)) (s.registers (value_register (depth + 1)))) sets
+operator_steps items buffers lane depth Multiply s t sets pc =
+    let P : ℕ → Type 0 = λ v. Sets (value_register depth) v s t in
+    subst P (product_is (s.registers (value_register depth)) (s.registers (value_register (depth + 1)))) sets
+
+-- the code of both sides, and then that of their operator
+applied_leaves : (items buffers lane : ℕ) (op : Operator) (depth a b : ℕ) (left_code right_code : List Instr) (s : Alone) →
+    (left : Leaves items buffers lane depth a left_code s) →
+    Leaves items buffers lane (depth + 1) b right_code (record { registers = left.registers; words = s.words }) → depth < 16 →
+    Leaves items buffers lane depth (operated op a b) (left_code ++ (right_code ++ operator_code op depth ∷ [])) s
+applied_leaves items buffers lane op depth a b left_code right_code s left right low =
+    let rd : ℕ = value_register depth in
+    let s1 : Alone = record { registers = left.registers; words = s.words } in
+    let s2 : Alone = record { registers = right.registers; words = s.words } in
+    let first : right.registers rd ≡ a = right.lower rd (omega arith) ∙ left.has in
+    let value : ℕ = operated op (right.registers rd) (right.registers (value_register (depth + 1))) in
+    let t : Alone = with_value rd value s2 in
+    let step : Steps items buffers lane (operator_code op depth) s2 t = operator_steps items buffers lane depth op s2 t (sets rd value s2 (omega arith) (omega arith)) in
+    record {
+      registers = t.registers;
+      goes =
+          goes_append items buffers lane left_code (right_code ++ operator_code op depth ∷ []) s s1 t left.goes
+          (goes_append items buffers lane right_code (operator_code op depth ∷ []) s1 s2 t right.goes (t, step, refl {a = t}));
+      has =
+          put_at-same rd value right.registers rd refl
+          ∙ ap (λ (x : ℕ). operated op x (right.registers (value_register (depth + 1)))) first
+          ∙ ap (λ (y : ℕ). operated op a y) right.has;
+      lower = λ r less. kept rd value right.registers r less ∙ right.lower r (omega arith) ∙ left.lower r less;
+    }
 
 module _ (items buffers lane : ℕ) (arguments : List ℕ) (few_items : items ≤ 32) (below : lane < items) (few : buffers ≤ 16) (within : All (λ b. b < buffers) arguments) where
   -- the element of a parameter's buffer is the lane's own
@@ -109,85 +149,51 @@ module _ (items buffers lane : ℕ) (arguments : List ℕ) (few_items : items �
   is_own p address is_one at = record { buffer = array_of arguments p; is_one = within p 0 is_one; place = own_place p address is_one at }
 
   pub sum_leaves : (t : Tree) (depth : ℕ) (s : Alone) → IsReady lane s.registers → depth + height t ≤ 16 → IsSumOf (length arguments) t →
-      ((b : ℕ) → s.words b < 2 ^ 32) →
       Leaves items buffers lane depth (value_of (λ p. s.words (array_of arguments p)) lane t) (sum_code (places_of arguments items) depth t) s
-  sum_leaves (Literal n) depth s ready low sum words =
+  sum_leaves (Literal n) depth s ready low sum =
       let rd : ℕ = value_register depth in
-      let high : ℕ → ℕ = put_at rd (high_part n * 2 ^ 12 % 2 ^ 32) s.registers in
-      let whole : ℕ → ℕ = put_at rd ((high rd + low_part n) % 2 ^ 32) high in
+      let high : ℕ = high_part n * 2 ^ 12 % 2 ^ 32 in
+      let m : Alone = with_value rd high s in
+      let whole : ℕ = (m.registers rd + low_part n) % 2 ^ 32 in
+      let t : Alone = with_value rd whole m in
       record {
-        registers = whole;
-        goes = (
-          record { registers = high; words = s.words },
-          (λ pc. record { above_zero = omega arith; is_register = omega arith; then = refl }),
-          (record { registers = whole; words = s.words }, (λ pc. record { above_zero = omega arith; is_register = omega arith; then = refl }), refl),
-        );
+        registers = t.registers;
+        goes = (m, (λ pc. sets rd high s (omega arith) (omega arith)), (t, (λ pc. sets rd whole m (omega arith) (omega arith)), refl {a = t}));
         has =
-            put_at-same rd ((high rd + low_part n) % 2 ^ 32) high rd refl
-            ∙ ap (λ (x : ℕ). (x + low_part n) % 2 ^ 32) (put_at-same rd (high_part n * 2 ^ 12 % 2 ^ 32) s.registers rd refl)
+            put_at-same rd whole m.registers rd refl
+            ∙ ap (λ (x : ℕ). (x + low_part n) % 2 ^ 32) (put_at-same rd high s.registers rd refl)
             ∙ number_made n sum;
-        lower = λ r less.
-            put_at-other rd ((high rd + low_part n) % 2 ^ 32) high r (λ e. omega arith)
-            ∙ put_at-other rd (high_part n * 2 ^ 12 % 2 ^ 32) s.registers r (λ e. omega arith);
+        lower = λ r less. kept rd whole m.registers r less ∙ kept rd high s.registers r less;
       }
-  sum_leaves OwnId depth s ready low sum words =
+  sum_leaves OwnId depth s ready low sum =
       let rd : ℕ = value_register depth in
       let value : ℕ = (s.registers number_register + 0) % 2 ^ 32 in
+      let t : Alone = with_value rd value s in
       let is_lane : s.registers number_register ≡ lane = ready.number in
       record {
-        registers = put_at rd value s.registers;
-        goes = (
-          record { registers = put_at rd value s.registers; words = s.words },
-          (λ pc. record { above_zero = omega arith; is_register = omega arith; then = refl }),
-          refl,
-        );
+        registers = t.registers;
+        goes = (t, (λ pc. sets rd value s (omega arith) (omega arith)), refl {a = t});
         has = put_at-same rd value s.registers rd refl ∙ omega (arith, is_lane);
-        lower = λ r less. put_at-other rd value s.registers r (λ e. omega arith);
+        lower = kept rd value s.registers;
       }
-  sum_leaves (OwnElement p) depth s ready low sum words =
+  sum_leaves (OwnElement p) depth s ready low sum =
       let rd : ℕ = value_register depth in
       let value : ℕ = s.words (array_of arguments p) in
+      let t : Alone = with_value rd value s in
       record {
-        registers = put_at rd value s.registers;
-        goes = (
-          record { registers = put_at rd value s.registers; words = s.words },
-          (λ pc. (is_own p (s.registers address_register) sum ready.address, record { above_zero = omega arith; is_register = omega arith; then = refl })),
-          refl,
-        );
+        registers = t.registers;
+        goes = (t, (λ pc. (is_own p (s.registers address_register) sum ready.address, sets rd value s (omega arith) (omega arith))), refl {a = t});
         has = put_at-same rd value s.registers rd refl;
-        lower = λ r less. put_at-other rd value s.registers r (λ e. omega arith);
+        lower = kept rd value s.registers;
       }
-  sum_leaves (Grouped t) depth s ready low sum words =
-      let inner = sum_leaves t depth s ready (omega arith) sum words in
+  sum_leaves (Grouped t) depth s ready low sum =
+      let inner = sum_leaves t depth s ready (omega arith) sum in
       record { registers = inner.registers; goes = inner.goes; has = inner.has; lower = inner.lower }
-  sum_leaves (Applied op l r) depth s ready low sum words =
-      let rd : ℕ = value_register depth in
-      let own : ℕ → ℕ = λ p. s.words (array_of arguments p) in
-      let left = sum_leaves l depth s ready (omega arith) sum.0 words in
+  sum_leaves (Applied op l r) depth s ready low sum =
+      let left = sum_leaves l depth s ready (omega arith) sum.0 in
+      let still = still_ready lane depth s.registers left.registers left.lower ready in
       let s1 : Alone = record { registers = left.registers; words = s.words } in
-      let right = sum_leaves r (depth + 1) s1 (still_ready lane depth s.registers left.registers left.lower ready) (omega arith) sum.1 words in
-      let s2 : Alone = record { registers = right.registers; words = s.words } in
-      let first : right.registers rd ≡ value_of own lane l = right.lower rd (omega arith) ∙ left.has in
-      let second : right.registers (value_register (depth + 1)) ≡ value_of own lane r = right.has in
-      let value : ℕ = operated op (right.registers rd) (right.registers (value_register (depth + 1))) in
-      let t : Alone = record { registers = put_at rd value right.registers; words = s.words } in
-      let small : lane < 2 ^ 32 = omega arith in
-      let first_small : right.registers rd < 2 ^ 32 = rw first (value_of-lt own lane (length arguments) l small (λ p. words (array_of arguments p)) sum.0) in
-      let second_small : right.registers (value_register (depth + 1)) < 2 ^ 32 = rw second (value_of-lt own lane (length arguments) r small (λ p. words (array_of arguments p)) sum.1) in
-      let step : Steps items buffers lane (operator_code op depth) s2 t =
-      operator_steps items buffers lane depth op s2 t first_small second_small (record { above_zero = omega arith; is_register = omega arith; then = refl }) in
-      record {
-        registers = put_at rd value right.registers;
-        goes =
-            goes_append items buffers lane (sum_code (places_of arguments items) depth l) (sum_code (places_of arguments items) (depth + 1) r ++ operator_code op depth ∷ []) s s1 t left.goes
-            (goes_append items buffers lane (sum_code (places_of arguments items) (depth + 1) r) (operator_code op depth ∷ []) s1 s2 t right.goes (t, step, refl {a = t}));
-        has =
-            put_at-same rd value right.registers rd refl
-            ∙ ap (λ (x : ℕ). operated op x (right.registers (value_register (depth + 1)))) first
-            ∙ ap (λ (y : ℕ). operated op (value_of own lane l) y) second;
-        lower = λ r less.
-            put_at-other rd value right.registers r (λ e. omega arith) ∙ right.lower r (omega arith) ∙ left.lower r less;
-      }
+      applied_leaves items buffers lane op depth _ _ _ _ s left (sum_leaves r (depth + 1) s1 still (omega arith) sum.1) (omega arith)
 
   -- a word put among words
   words_put : (b v : ℕ) (words : ℕ → ℕ) → v < 2 ^ 32 → ((c : ℕ) → words c < 2 ^ 32) → (c : ℕ) → put_at b v words c < 2 ^ 32
@@ -207,7 +213,7 @@ module _ (items buffers lane : ℕ) (arguments : List ℕ) (few_items : items �
       let b : ℕ = array_of arguments a.parameter in
       let own : ℕ → ℕ = λ p. s.words (array_of arguments p) in
       let value : ℕ = value_of own lane a.value in
-      let sum = sum_leaves a.value 0 s ready (let h : height a.value ≤ 16 = low.0 in omega arith) of_parameters.0.1 words in
+      let sum = sum_leaves a.value 0 s ready (let h : height a.value ≤ 16 = low.0 in omega arith) of_parameters.0.1 in
       let small : value < 2 ^ 32 = value_of-lt own lane (length arguments) a.value (omega arith) (λ p. words (array_of arguments p)) of_parameters.0.1 in
       let s1 : Alone = record { registers = sum.registers; words = s.words } in
       let s2 : Alone = record { registers = sum.registers; words = put_at b value s.words } in
@@ -229,30 +235,20 @@ module _ (items buffers lane : ℕ) (arguments : List ℕ) (few_items : items �
   -- the code that comes first sets the registers that code of sums reads
   opening_leaves : (words : ℕ → ℕ) → (s : Alone) × Goes items buffers lane opening_code (starts words) s × IsReady lane s.registers × (s.words ≡ words)
   opening_leaves words =
-      let r1 : ℕ → ℕ = put_at 5 lane (λ _. 0) in
-      let r2 : ℕ → ℕ = put_at 7 (r1 5 * 2 ^ 2 % 2 ^ 32) r1 in
-      let r3 : ℕ → ℕ = put_at 6 (0x40000 * 2 ^ 12 % 2 ^ 32) r2 in
-      let r4 : ℕ → ℕ = put_at 6 ((r3 6 + r3 7) % 2 ^ 32) r3 in
-      let s1 : Alone = record { registers = r1; words = words } in
-      let s2 : Alone = record { registers = r2; words = words } in
-      let s3 : Alone = record { registers = r3; words = words } in
-      let s4 : Alone = record { registers = r4; words = words } in (
+      let s0 : Alone = starts words in
+      let s1 : Alone = with_value 5 lane s0 in
+      let distance : ℕ = lane * 2 ^ 2 % 2 ^ 32 in
+      let s2 : Alone = with_value 7 distance s1 in
+      let start : ℕ = 0x40000 * 2 ^ 12 % 2 ^ 32 in
+      let s3 : Alone = with_value 6 start s2 in
+      let address : ℕ = (start + distance) % 2 ^ 32 in
+      let s4 : Alone = with_value 6 address s3 in
+      let third : Goes items buffers lane (Lui 6 0x40000 ∷ instr.Add 6 6 7 ∷ []) s2 s4 =
+      (s3, (λ pc. sets 6 start s2 (omega arith) (omega arith)), (s4, (λ pc. sets 6 address s3 (omega arith) (omega arith)), refl {a = s4})) in (
         s4,
-        (
-          s1,
-          (λ pc. (refl, record { above_zero = omega arith; is_register = omega arith; then = refl })),
-          (
-            s2,
-            (λ pc. record { above_zero = omega arith; is_register = omega arith; then = refl }),
-            (
-              s3,
-              (λ pc. record { above_zero = omega arith; is_register = omega arith; then = refl }),
-              (s4, (λ pc. record { above_zero = omega arith; is_register = omega arith; then = refl }), refl {a = s4}),
-            ),
-          ),
-        ),
+        (s1, (λ pc. (refl, sets 5 lane s0 (omega arith) (omega arith))), (s2, (λ pc. sets 7 distance s1 (omega arith) (omega arith)), third)),
         record { number = refl; address = omega arith },
-        refl,
+        refl {a = words},
       )
 
 -- the code of a kernel does what the kernel says

@@ -1,8 +1,7 @@
 -- A run of the code of a kernel leaves what the kernel's assignments do.
-use Rattle.std.proofs.Common.{◌≡◌, ℕ, zero, suc, ◌+◌, ◌*◌, ◌^◌, ◌<◌, ◌≤◌, ◌⊎◌, inl, inr, List, length, get_or, replicate, Result, refl, ap, sym, ◌∙◌, subst, arith}
+use Rattle.std.proofs.Common.{◌≡◌, ℕ, zero, suc, ◌+◌, ◌*◌, ◌<◌, ◌≤◌, List, length, get_or, replicate, Result, refl, ap, sym, ◌∙◌, subst, arith}
 use Rattle.std.specs.Result.{IsOk}
 use Rattle.std.proofs.lemmas.List.{get_or-replicate, length-replicate}
-use Rattle.vx_base.specs.Bytes.{field_of}
 use Rattle.vx_base.proofs.FieldLaws.{field_of-word}
 use Rattle.vx_isa.specs.declared.instr.Instr.{Instr}
 use Rattle.vx_run.specs.declared.first.warp.Lane.{Lane}
@@ -13,7 +12,7 @@ use Rattle.vx_run.specs.FirstValues.{words_after, IsLaunchable}
 use Rattle.vx_run.specs.FirstMemory.{stride, element_at, HasRun}
 use Rattle.vx_run.specs.FirstLane.{Alone, Ends}
 use Rattle.vx_run.specs.FirstCode.{starts, IsCodeOf}
-use Rattle.vx_run.specs.FirstWarp.{idle, StandsAs, EndTogether, Fits}
+use Rattle.vx_run.specs.FirstWarp.{idle, StandsAs, EndTogether}
 use Rattle.vx_run.proofs.FirstTogether.{chosen}
 
 -- registers that are all 0

@@ -1,5 +1,5 @@
 -- What each lane makes by itself, all lanes of a warp make together.
-use Rattle.std.proofs.Common.{◌≡◌, ◌≢◌, ℕ, suc, ◌+◌, ◌*◌, ◌<◌, ◌≤◌, ◌⊎◌, inl, inr, Bool, cond, ltb, List, [], ◌∷◌, length, get_or, set, drop, Result, Ok, Err, refl, ap, sym, ◌∙◌, subst, arith, length-set}
+use Rattle.std.proofs.Common.{◌≡◌, ◌≢◌, ℕ, ◌+◌, ◌<◌, ◌≤◌, ◌⊎◌, inl, inr, cond, ltb, List, [], ◌∷◌, length, get_or, set, drop, Result, Ok, Err, refl, ap, sym, ◌∙◌, subst, arith, length-set}
 use Rattle.std.specs.Result.{IsOk}
 use Rattle.std.proofs.lemmas.Bool.{true≢false, cases_lt, cases_eq, cond-true, cond-false, lt-ltb, le-ltb}
 use Rattle.std.proofs.lemmas.List.{get_or-set_same, get_or-set_other, get_or_default, drop_more, drop_all}
@@ -7,9 +7,8 @@ use Rattle.vx_isa.specs.declared.instr.Instr.{Instr}
 use Rattle.vx_isa.specs.declared.instr.Instr.TheVariants.{Tmc}
 use Rattle.vx_run.specs.declared.first.warp.Lane.{Lane}
 use Rattle.vx_run.specs.declared.first.warp.WarpFault.{WarpFault}
-use Rattle.vx_run.specs.FirstMemory.{stride}
 use Rattle.vx_run.specs.FirstLane.{Alone, Steps, Ends}
-use Rattle.vx_run.specs.FirstWarp.{idle, StandsAs, AllStandAs, OthersKeep, Fits, StepAmongOthers, StepTogether, EndTogether}
+use Rattle.vx_run.specs.FirstWarp.{idle, StandsAs, AllStandAs, Fits, StepAmongOthers, StepTogether, EndTogether}
 
 -- the lanes below this one are one instruction further
 abbrev pub mixed : ℕ → (ℕ → Alone) → (ℕ → Alone) → ℕ → Alone

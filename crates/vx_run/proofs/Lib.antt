@@ -1,3 +1,9 @@
+pub mod FirstElements
+pub mod FirstCarries
+pub mod FirstTogether
+pub mod FirstEmit
+pub mod FirstCorrect
+pub mod FirstRuns
 pub mod DeliveryLaws
 pub mod OutputLaws
 pub mod ReadingLaws
@@ -28,12 +34,6 @@ pub mod FirstSums
 pub mod FirstSumsAgain
 pub mod FirstKernels
 pub mod FirstTexts
-pub mod FirstElements
-pub mod FirstCarries
-pub mod FirstTogether
-pub mod FirstEmit
-pub mod FirstCorrect
-pub mod FirstRuns
 pub mod LaunchLaws
 pub mod OneOutcome
 pub mod AnswerLaws

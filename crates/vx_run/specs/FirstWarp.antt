@@ -1,9 +1,9 @@
-use Rattle.std.specs.Prelude.{◌≡◌, ◌≢◌, ℕ, ◌+◌, ◌-◌, ◌*◌, ◌^◌, ◌<◌, ◌≤◌, Bool, true, ◌&&◌, nat_le, nat_eq, if◌then◌else◌, List, [], ◌∷◌, length, slice_index, slice_index_or, slice_set, Option, Some, None, Result, Ok, Err, IsOk, replicate}
+use Rattle.std.specs.Prelude.{◌≡◌, ◌≢◌, ℕ, ◌+◌, ◌-◌, ◌*◌, ◌<◌, Bool, true, ◌&&◌, nat_le, nat_eq, if◌then◌else◌, List, length, slice_index, slice_index_or, slice_set, Option, Some, None, Result, Ok, Err, IsOk, replicate}
 use Rattle.vx_base.specs.Bytes.{bytes_of, field_of, with_field}
 use Rattle.vx_base.specs.Values.{fitted}
 use Rattle.vx_base.specs.declared.types.Elem.TheVariants.{Char, Short}
 use Rattle.vx_base.specs.declared.types.Size.{Size}
-use Rattle.vx_base.specs.declared.types.Size.TheVariants.{One, Two, Four}
+use Rattle.vx_base.specs.declared.types.Size.TheVariants.{One, Two}
 use Rattle.vx_isa.specs.declared.instr.Instr.{Instr}
 use Rattle.vx_isa.specs.declared.instr.LaneEffect.{LaneEffect}
 use Rattle.vx_isa.specs.declared.instr.LaneEffect.TheVariants.{Write, Load, Store, Csr, Nothing}

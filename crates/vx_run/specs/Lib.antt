@@ -9,12 +9,12 @@ pub mod FirstReading
 pub mod First
 pub mod FirstValues
 pub mod FirstMemory
+pub mod FirstLane
+pub mod FirstWarp
+pub mod FirstCode
 pub mod Delivery
 pub mod Output
 pub mod Answers
 pub mod Stages
 pub mod Layout
 pub mod Meets
-pub mod FirstLane
-pub mod FirstWarp
-pub mod FirstCode

@@ -1,4 +1,4 @@
-use Rattle.std.proofs.Common.{ℕ, ◌*◌, ◌%◌, ◌^◌, map, rules, arith, refl, ap, ◌∙◌}
+use Rattle.std.proofs.Common.{ℕ, ◌*◌, ◌%◌, ◌^◌, map, rules, ap, ◌∙◌}
 use Rattle.vx_run.specs.FirstTree.{form_of}
 use Rattle.vx_run.proofs.FirstEmit.{kernel_parts}
 use Rattle.vx_run.proofs.first.code.kernel_instrs.Goals as goal

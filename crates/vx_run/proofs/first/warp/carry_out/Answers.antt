@@ -1,6 +1,6 @@
 use Rattle.std.proofs.Common.{◌≡◌, ℕ, List, Result, Ok, Err, ap, MatchResult}
 use Rattle.vx_run.specs.declared.first.warp.WarpFault.{WarpFault}
-use Rattle.vx_run.specs.FirstWarp.{Held, with_memory}
+use Rattle.vx_run.specs.FirstWarp.{with_memory}
 use Rattle.vx_run.proofs.first.warp.carry_out.Goals as goal
 
 -- what becomes of memory tells what becomes of a lane and memory
