@@ -38,3 +38,4 @@ pub mod LaunchLaws
 pub mod OneOutcome
 pub mod AnswerLaws
 pub mod FirstExamples
+pub mod MeetsLaws

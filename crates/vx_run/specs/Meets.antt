@@ -1,4 +1,4 @@
-use Rattle.std.specs.Prelude.{◌≡◌, ℕ, ◌+◌, ◌^◌, ◌<◌, ◌≤◌, Option, Some, None, ◌⊎◌, List, ◌++◌, length, take}
+use Rattle.std.specs.Prelude.{◌≡◌, ℕ, ◌+◌, ◌^◌, ◌<◌, ◌≤◌, Option, Some, None, ◌⊎◌, List, []}
 use Rattle.vx_base.specs.declared.types.Pos.{Pos}
 use Rattle.vx_world.specs.Counts.{Rose}
 use Rattle.vx_world.specs.Writing.{Appends}
@@ -10,6 +10,7 @@ use Rattle.vx_run.specs.declared.report.BufferKind.{BufferKind}
 use Rattle.vx_run.specs.declared.report.Cause.{Cause}
 use Rattle.vx_run.specs.declared.report.Cause.TheVariants.{Done, Usage, Source, Launch, Buffer, Trap, Stuck, Turns, ReadFault, WriteFault, Memory, Missing}
 use Rattle.vx_run.specs.declared.report.Report.{Report}
+use Rattle.vx_run.specs.Delivery.{AppendsSome}
 use Rattle.vx_run.specs.Answers.{Outcome, Refuses, Prints, FromWords}
 use Rattle.vx_run.specs.Lines.{line_of, status_of}
 
@@ -39,21 +40,14 @@ pub data AnswerText (held : Option (List Entry)) (words : List (List ℕ)) : Cau
   RefusalLine : (cause : Cause) → FromWords held words (Refuses cause) → AnswerText held words cause (line_of cause)
   FaultLine : AnswerText held words (ReadFault 1) (line_of (ReadFault 1))
 
--- the text is written whole, or up to the fault that ended the call
-abbrev pub IsWrittenBy : Cause → ℕ → List ℕ → Cause → Type 0
-IsWrittenBy answered count text (WriteFault faults) = count ≤ length text
-IsWrittenBy answered count text Memory = count ≤ length text
-IsWrittenBy answered count text cause = (count ≡ length text) × (answered ≡ cause)
-
--- What was written is the front of the text of an answer that the call may come to, and all of that of its own answer
--- unless the sink failed or memory ran out.
-pub record IsPrefix (held : Option (List Entry)) (words : List (List ℕ)) (before now : Option (List ℕ)) (cause : Cause) : Type 0 where
-  pub answered : Cause
-  pub text : List ℕ
-  pub is : AnswerText held words answered text
-  pub count : ℕ
-  pub whole : IsWrittenBy answered count text cause
-  pub appends : Appends before now (take count text)
+-- What was written is a text of an answer that the call may come to, whole and for the cause of the report; or its front,
+-- where the sink failed or memory ran out; or nothing, where memory ran out before.
+pub data IsPrefix (held : Option (List Entry)) (words : List (List ℕ)) (before now : Option (List ℕ)) (report : Report) : Type 0 where
+  WholeText : (cause : Cause) (text : List ℕ) → AnswerText held words cause text → report.cause ≡ cause → Appends before now text →
+    IsPrefix held words before now report
+  FrontOfText : (cause : Cause) (text : List ℕ) (faults : ℕ) → AnswerText held words cause text → (report.cause ≡ WriteFault faults) ⊎ (report.cause ≡ Memory) →
+    AppendsSome before now text → IsPrefix held words before now report
+  NoText : report.cause ≡ Memory → Appends before now [] → IsPrefix held words before now report
 
 -- the call is refused for this cause
 abbrev pub IsRefused : Option (List Entry) → List (List ℕ) → Cause → Type 0
@@ -67,7 +61,7 @@ pub record VxMeets (held : Option (List Entry)) (words : List (List ℕ)) (befor
 
   -- each refusal comes exactly where its row of the table of answers says
   pub usage : (word : ℕ) (kind : UsageKind) → (report.cause ≡ Usage word kind → IsRefused held words (Usage word kind))
-    × (IsRefused held words (Usage word kind) → EndsFor report (Usage word kind))
+    × (IsRefused held words (Usage word kind) → EndsUnread report (Usage word kind))
   pub source : (pos : Pos) (kind : SourceKind) → (report.cause ≡ Source pos kind → IsRefused held words (Source pos kind))
     × (IsTold held → IsRefused held words (Source pos kind) → EndsUnread report (Source pos kind))
   pub launch : (index : ℕ) (kind : LaunchKind) → (report.cause ≡ Launch index kind → IsRefused held words (Launch index kind))
@@ -87,11 +81,11 @@ pub record VxMeets (held : Option (List Entry)) (words : List (List ℕ)) (befor
   pub write_fault : (faults : ℕ) → report.cause ≡ WriteFault faults → (faults ≡ 1) × Rose before.write_faults now.write_faults
 
   -- what is written is always the front of a text, and mostly all of it
-  pub prefix : IsPrefix held words before.written now.written report.cause
+  pub prefix : IsPrefix held words before.written now.written report
 
   -- with status 0 the printed buffers are those that the launch leaves, written whole
   pub headline : report.cause ≡ Done → (text : List ℕ) × FromWords held words (Prints text) × Appends before.written now.written text
 
-  -- where a text is to be printed and no fault was counted, it is printed, unless memory ran out
-  pub complete : IsTold held → (text : List ℕ) → FromWords held words (Prints text) → (Rose before.read_faults now.read_faults → ⊥) →
+  -- where no refusal's row holds and no fault was counted, the buffers are printed, unless memory ran out
+  pub complete : ((cause : Cause) → IsRefused held words cause → ⊥) → (Rose before.read_faults now.read_faults → ⊥) →
     (Rose before.write_faults now.write_faults → ⊥) → (report.cause ≡ Done) ⊎ (report.cause ≡ Memory)

@@ -1,0 +1,212 @@
+-- What a call meets, by what is known of its end.
+use Rattle.std.proofs.Common.{◌≡◌, ℕ, suc, ◌⊎◌, ◌∷◌, inl, inr, List, [], ◌++◌, length, take, Some, refl, ap, sym, ◌∙◌, subst, append-nil}
+use Rattle.std.specs.Prelude.{Option, None}
+use Rattle.vx_base.specs.declared.types.Pos.{Pos}
+use Rattle.vx_world.specs.Counts.{Rose}
+use Rattle.vx_world.specs.Writing.{Appends}
+use Rattle.vx_world.specs.declared.reading.Entry.{Entry}
+use Rattle.vx_run.specs.declared.words.BufWord.{BufWord}
+use Rattle.vx_run.specs.declared.words.RunWords.{RunWords}
+use Rattle.vx_run.specs.declared.words.UsageKind.{UsageKind}
+use Rattle.vx_run.specs.FirstTree.{Form}
+use Rattle.vx_run.specs.declared.report.Cause.{Cause}
+use Rattle.vx_run.specs.declared.report.Cause.TheVariants.{Done, Usage, Source, Launch, Buffer, Trap, Stuck, Turns, ReadFault, WriteFault, Memory, Missing}
+use Rattle.vx_run.specs.declared.report.Report.{Report}
+use Rattle.vx_run.specs.Answers.{Outcome, Refuses, Prints, FromWords, FromFile, FromSource, FromEntry, FromBuffers, FromArguments, NoCommand, NoForm, HasForm, NoFile, HasFile, NoKernel, HasKernel, NoEntry, HasEntry, NoBuffers, NoBufferFile, WrongLength, NextBuffer, WrongArguments, Runs}
+use Rattle.vx_run.specs.Delivery.{AppendsSome, IsReportOf, Delivers, WholeText, SinkFailed, NoMemory}
+use Rattle.vx_run.specs.Lines.{line_of, status_of}
+use Rattle.vx_run.specs.Meets as promises
+use Rattle.vx_run.specs.Meets.{Outside, IsTold, EndsFor, EndsUnread, AnswerText, PrintedText, RefusalLine, FaultLine, IsRefused, IsPrefix, VxMeets}
+use Rattle.vx_run.specs.Stages.{IsRefusal, CausesFaults, CausesMisses}
+use Rattle.vx_run.proofs.OneOutcome.{Agree, one_outcome, one_usage}
+
+-- a refusal is a fault of a read, or one that the call comes to
+refusal_cases : (P : Outcome → Type 0) (c : Cause) → IsRefusal P c → ((faults : ℕ) × (c ≡ ReadFault faults) × (faults ≡ 1)) ⊎ P (Refuses c)
+refusal_cases P (ReadFault faults) h = inl (faults, refl, h)
+refusal_cases P c h = inr h
+
+module _ (held : Option (List Entry)) (words : List (List ℕ)) where
+  -- how a call ended: with its text, with a refusal, or for want of a sink or of memory
+  pub data Ended (before now : Outside) (report : Report) : Type 0 where
+    AtText : (text : List ℕ) → report.cause ≡ Done → FromWords held words (Prints text) → Appends before.written now.written text → Ended before now report
+    AtRefusal : (c : Cause) → report.cause ≡ c → IsRefusal (FromWords held words) c → CausesFaults c before.read_faults now.read_faults →
+      CausesMisses c before.misses now.misses → Ended before now report
+    AtSink : report.cause ≡ WriteFault 1 → Rose before.write_faults now.write_faults → Ended before now report
+    AtMemory : report.cause ≡ Memory → Ended before now report
+
+-- the causes for which a call may be refused
+abbrev pub IsAnswerable : Cause → Type 0
+IsAnswerable Done = ⊥
+IsAnswerable (Usage word kind) = Unit {0}
+IsAnswerable (Source pos kind) = Unit {0}
+IsAnswerable (Launch index kind) = Unit {0}
+IsAnswerable (Buffer index kind) = Unit {0}
+IsAnswerable (Trap launch pos item) = ⊥
+IsAnswerable (Stuck launch core waiting ended) = ⊥
+IsAnswerable (Turns launch core group count) = ⊥
+IsAnswerable (ReadFault faults) = ⊥
+IsAnswerable (WriteFault faults) = ⊥
+IsAnswerable Memory = ⊥
+IsAnswerable (Missing name) = Unit {0}
+
+abbrev pub MayBe : Outcome → Type 0
+MayBe (Refuses c) = IsAnswerable c
+MayBe (Prints text) = Unit {0}
+
+module _ (held : Option (List Entry)) where
+  may_arguments : (c : RunWords) (k : Form) (contents : List (List ℕ)) (o : Outcome) → FromArguments c k contents o → MayBe o
+  may_arguments c k contents o (WrongArguments other) = tt
+  may_arguments c k contents o (Runs same left leaves) = tt
+
+  may_buffers : (c : RunWords) (k : Form) (index : ℕ) (bs : List BufWord) (contents : List (List ℕ)) (o : Outcome) → FromBuffers held c k index bs contents o → MayBe o
+  may_buffers c k index [] contents o (NoBuffers i cs q h) = may_arguments c k contents o h
+  may_buffers c k index (b ∷ more) contents o (NoBufferFile i cs b' more' path e none) = tt
+  may_buffers c k index (b ∷ more) contents o (WrongLength i cs b' more' bytes brings other) = tt
+  may_buffers c k index (b ∷ more) contents o (NextBuffer i cs b' more' bytes q brings whole rest) = may_buffers c k (suc index) more (contents ++ bytes ∷ []) o rest
+
+  may_entry : (c : RunWords) (k : Form) (o : Outcome) → FromEntry held c k o → MayBe o
+  may_entry c k o (NoEntry other) = tt
+  may_entry c k o (HasEntry q same h) = may_buffers c k 0 c.buffers [] o h
+
+  may_source : (c : RunWords) (bytes : List ℕ) (o : Outcome) → FromSource held c bytes o → MayBe o
+  may_source c bytes o (NoKernel none) = tt
+  may_source c bytes o (HasKernel k q is h) = may_entry c k o h
+
+  may_file : (c : RunWords) (o : Outcome) → FromFile held c o → MayBe o
+  may_file c o (NoFile none) = tt
+  may_file c o (HasFile bytes q there h) = may_source c bytes o h
+
+  -- a call comes to such a refusal, or prints
+  pub may_be : (words : List (List ℕ)) (o : Outcome) → FromWords held words o → MayBe o
+  may_be words o (NoCommand other) = tt
+  may_be words o (NoForm run none) = tt
+  may_be words o (HasForm c q is h) = may_file c o h
+
+-- where the files tell, a refusal is the only outcome
+told_agree : (held : Option (List Entry)) (words : List (List ℕ)) → IsTold held → (c : Cause) → IsRefused held words c → (o : Outcome) → FromWords held words o → Agree (Refuses c) o
+told_agree None words told c h o h' = absurd told
+told_agree (Some entries) words told c h o h' = one_outcome entries words (Refuses c) o h h'
+
+module _ (held : Option (List Entry)) (words : List (List ℕ)) (before now : Outside) (report : Report) where
+  -- a refusal's cause comes only where the call is refused so
+  only_refused : (c : Cause) → IsAnswerable c → Ended held words before now report → report.cause ≡ c → IsRefused held words c
+  only_refused c may (AtText text e from appends) f = absurd (subst IsAnswerable (sym f ∙ e) may)
+  only_refused c may (AtRefusal d e is faults misses) f =
+    elim (refusal_cases (FromWords held words) c (subst (IsRefusal (FromWords held words)) (sym e ∙ f) is)) [ inl fault ↦ absurd (subst IsAnswerable fault.1 may) | inr h ↦ h ]
+  only_refused c may (AtSink e rose) f = absurd (subst IsAnswerable (sym f ∙ e) may)
+  only_refused c may (AtMemory e) f = absurd (subst IsAnswerable (sym f ∙ e) may)
+
+  -- a call that is refused so ends so, or one of its reads, the sink or memory failed
+  refused_ends : (c : Cause) → ((o : Outcome) → FromWords held words o → Agree (Refuses c) o) → Ended held words before now report → EndsUnread report c
+  refused_ends c agree (AtText text e from appends) = absurd (agree (Prints text) from)
+  refused_ends c agree (AtRefusal d e is faults misses) =
+    elim (refusal_cases (FromWords held words) d is) [ inl fault ↦ inr (fault.0, e ∙ fault.1) | inr h ↦ inl (inl (e ∙ sym (agree (Refuses d) h))) ]
+  refused_ends c agree (AtSink e rose) = inl (inr (inl (1, e)))
+  refused_ends c agree (AtMemory e) = inl (inr (inr e))
+
+  -- no other cause than these, a fault, want of memory and the end
+  never : (c : Cause) → (IsAnswerable c → ⊥) → (IsRefusal (FromWords held words) c → IsAnswerable c) → (Done ≡ c → ⊥) → (WriteFault 1 ≡ c → ⊥) → (Memory ≡ c → ⊥) →
+    Ended held words before now report → report.cause ≡ c → ⊥
+  never c not may done sink memory (AtText text e from appends) f = done (sym e ∙ f)
+  never c not may done sink memory (AtRefusal d e is faults misses) f = not (may (subst (IsRefusal (FromWords held words)) (sym e ∙ f) is))
+  never c not may done sink memory (AtSink e rose) f = sink (sym e ∙ f)
+  never c not may done sink memory (AtMemory e) f = memory (sym e ∙ f)
+
+  only_missing : (name : List ℕ) → Ended held words before now report → report.cause ≡ Missing name → Rose before.misses now.misses
+  only_missing name (AtText text e from appends) f = absurd (subst IsAnswerable (sym f ∙ e) tt)
+  only_missing name (AtRefusal d e is faults misses) f = subst (λ c. CausesMisses c before.misses now.misses) (sym e ∙ f) misses
+  only_missing name (AtSink e rose) f = absurd (subst IsAnswerable (sym f ∙ e) tt)
+  only_missing name (AtMemory e) f = absurd (subst IsAnswerable (sym f ∙ e) tt)
+
+  only_read_fault : (faults : ℕ) → Ended held words before now report → report.cause ≡ ReadFault faults → (faults ≡ 1) × Rose before.read_faults now.read_faults
+  only_read_fault faults (AtText text e from appends) f = let g : Done ≡ ReadFault faults = sym e ∙ f in cc
+  only_read_fault faults (AtRefusal d e is causes misses) f = (
+    subst (IsRefusal (FromWords held words)) (sym e ∙ f) is,
+    subst (λ c. CausesFaults c before.read_faults now.read_faults) (sym e ∙ f) causes)
+  only_read_fault faults (AtSink e rose) f = let g : WriteFault 1 ≡ ReadFault faults = sym e ∙ f in cc
+  only_read_fault faults (AtMemory e) f = let g : Memory ≡ ReadFault faults = sym e ∙ f in cc
+
+  only_write_fault : (faults : ℕ) → Ended held words before now report → report.cause ≡ WriteFault faults → (faults ≡ 1) × Rose before.write_faults now.write_faults
+  only_write_fault faults (AtText text e from appends) f = let g : Done ≡ WriteFault faults = sym e ∙ f in cc
+  only_write_fault faults (AtRefusal d e is causes misses) f = absurd (may_be held words (Refuses (WriteFault faults)) (subst (IsRefusal (FromWords held words)) (sym e ∙ f) is))
+  only_write_fault faults (AtSink e rose) f = let g : WriteFault 1 ≡ WriteFault faults = sym e ∙ f in (cc, rose)
+  only_write_fault faults (AtMemory e) f = let g : Memory ≡ WriteFault faults = sym e ∙ f in cc
+
+  only_done : Ended held words before now report → report.cause ≡ Done → (text : List ℕ) × FromWords held words (Prints text) × Appends before.written now.written text
+  only_done (AtText text e from appends) f = (text, from, appends)
+  only_done (AtRefusal d e is causes misses) f = absurd (may_be held words (Refuses Done) (subst (IsRefusal (FromWords held words)) (sym e ∙ f) is))
+  only_done (AtSink e rose) f = let g : WriteFault 1 ≡ Done = sym e ∙ f in absurd (cc)
+  only_done (AtMemory e) f = let g : Memory ≡ Done = sym e ∙ f in absurd (cc)
+
+  ends_well : Ended held words before now report → ((c : Cause) → IsRefused held words c → ⊥) → (Rose before.read_faults now.read_faults → ⊥) →
+    (Rose before.write_faults now.write_faults → ⊥) → (report.cause ≡ Done) ⊎ (report.cause ≡ Memory)
+  ends_well (AtText text e from appends) none read write = inl e
+  ends_well (AtRefusal d e is causes misses) none read write =
+    elim (refusal_cases (FromWords held words) d is) [
+      inl fault ↦ absurd (read (subst (λ c. CausesFaults c before.read_faults now.read_faults) fault.1 causes))
+    | inr h ↦ absurd (none d h) ]
+  ends_well (AtSink e rose) none read write = absurd (write rose)
+  ends_well (AtMemory e) none read write = inr e
+
+  -- what is known of a call's end is what it meets
+  pub meets : report.status ≡ status_of report.cause → Ended held words before now report → IsPrefix held words before.written now.written report →
+    VxMeets held words before now report
+  meets status ended prefix = record {
+    status = status;
+    usage = λ word kind. (only_refused (Usage word kind) tt ended, λ h. refused_ends (Usage word kind) (λ o h'. one_usage held words word kind o h h') ended);
+    source = λ pos kind. (only_refused (Source pos kind) tt ended, λ told h. refused_ends (Source pos kind) (told_agree held words told (Source pos kind) h) ended);
+    launch = λ index kind. (only_refused (Launch index kind) tt ended, λ told h. refused_ends (Launch index kind) (told_agree held words told (Launch index kind) h) ended);
+    buffer = λ index kind. (only_refused (Buffer index kind) tt ended, λ told h. refused_ends (Buffer index kind) (told_agree held words told (Buffer index kind) h) ended);
+    missing = λ name. (λ e. (only_refused (Missing name) tt ended e, only_missing name ended e), λ told h. refused_ends (Missing name) (told_agree held words told (Missing name) h) ended);
+    trap = λ launch pos item. never (Trap launch pos item) (λ x. x) (may_be held words (Refuses (Trap launch pos item))) (λ e. cc) (λ e. cc) (λ e. cc) ended;
+    stuck = λ launch core waiting stopped. never (Stuck launch core waiting stopped) (λ x. x) (may_be held words (Refuses (Stuck launch core waiting stopped))) (λ e. cc) (λ e. cc) (λ e. cc) ended;
+    turns = λ launch core group count. never (Turns launch core group count) (λ x. x) (may_be held words (Refuses (Turns launch core group count))) (λ e. cc) (λ e. cc) (λ e. cc) ended;
+    read_fault = λ faults. only_read_fault faults ended;
+    write_fault = λ faults. only_write_fault faults ended;
+    prefix = prefix;
+    headline = only_done ended;
+    complete = ends_well ended;
+  }
+
+-- the status of a report is that of its cause
+status_kept : (cause : Cause) (report : Report) → IsReportOf cause report → report.status ≡ status_of report.cause
+status_kept cause report h = h.status ∙ ap status_of (sym h.cause_is)
+
+module _ (held : Option (List Entry)) (words : List (List ℕ)) (before now : Outside) (report : Report) where
+  -- a text that is delivered
+  pub meets_printed : (text : List ℕ) → FromWords held words (Prints text) →
+    Delivers Done text before.written now.written before.write_faults now.write_faults report → VxMeets held words before now report
+  meets_printed text from (WholeText r appends) =
+    meets held words before now report (status_kept Done report r) (AtText text r.cause_is from appends)
+      (promises.WholeText Done text (PrintedText text from) r.cause_is appends)
+  meets_printed text from (SinkFailed r rose some) =
+    meets held words before now report (status_kept (WriteFault 1) report r) (AtSink r.cause_is rose)
+      (promises.FrontOfText Done text 1 (PrintedText text from) (inl r.cause_is) some)
+  meets_printed text from (NoMemory r some) =
+    meets held words before now report (status_kept Memory report r) (AtMemory r.cause_is)
+      (promises.FrontOfText Done text 1 (PrintedText text from) (inr r.cause_is) some)
+
+  -- the line of a refusal
+  line_text : (c : Cause) → IsRefusal (FromWords held words) c → AnswerText held words c (line_of c)
+  line_text c is = elim (refusal_cases (FromWords held words) c is) [
+      inl fault ↦ subst (λ d. AnswerText held words d (line_of d)) (sym (fault.1 ∙ ap ReadFault fault.2)) FaultLine
+    | inr h ↦ RefusalLine c h ]
+
+  -- a refusal whose line is delivered
+  pub meets_refused : (c : Cause) → IsRefusal (FromWords held words) c → CausesFaults c before.read_faults now.read_faults → CausesMisses c before.misses now.misses →
+    Delivers c (line_of c) before.written now.written before.write_faults now.write_faults report → VxMeets held words before now report
+  meets_refused c is faults misses (WholeText r appends) =
+    meets held words before now report (status_kept c report r) (AtRefusal c r.cause_is is faults misses)
+      (promises.WholeText c (line_of c) (line_text c is) r.cause_is appends)
+  meets_refused c is faults misses (SinkFailed r rose some) =
+    meets held words before now report (status_kept (WriteFault 1) report r) (AtSink r.cause_is rose)
+      (promises.FrontOfText c (line_of c) 1 (line_text c is) (inl r.cause_is) some)
+  meets_refused c is faults misses (NoMemory r some) =
+    meets held words before now report (status_kept Memory report r) (AtMemory r.cause_is)
+      (promises.FrontOfText c (line_of c) 1 (line_text c is) (inr r.cause_is) some)
+
+  -- want of memory before anything is written
+  pub meets_memory : IsReportOf Memory report → now.written ≡ before.written → VxMeets held words before now report
+  meets_memory r same =
+    meets held words before now report (status_kept Memory report r) (AtMemory r.cause_is)
+      (promises.NoText r.cause_is (λ x e. same ∙ e ∙ ap Some (sym (append-nil x))))

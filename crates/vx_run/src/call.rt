@@ -1,0 +1,62 @@
+ghost use Rattle.std.specs.Prelude.{◌≡◌, map, string_bytes};
+ghost use Rattle.vx_run.specs.Delivery.{Delivers, IsReportOf};
+ghost use Rattle.vx_run.specs.Meets.{VxMeets};
+
+use std::alloc::Global;
+use std::thread::Threads;
+
+use vx_base::Text;
+use vx_world::{Files, Gate, Out, OutFault};
+
+use crate::answer::answer;
+use crate::deliver::deliver;
+use crate::lines::{cause_line, cause_status};
+use crate::report::{Cause, Report};
+use crate::stages::Stop;
+
+fn report(cause: Cause) -> Report
+    ensures { IsReportOf cause result }
+{
+    Report {
+        status: cause_status(&cause),
+        cause,
+    }
+}
+
+// Writes the text of an answer, and reports its cause where it was written whole.
+fn deliver_answer<O: Out>(out: &mut O, cause: Cause, text: &Text) -> Report
+    ensures { Delivers cause text.now (O.written out.old) (O.written out.new) (O.faults out.old) (O.faults out.new) result }
+{
+    match deliver(out, text.as_slice()) {
+        Ok(()) => report(cause),
+        Err(OutFault::Failed) => report(Cause::WriteFault { faults: 1 }),
+        Err(OutFault::Memory) => report(Cause::Memory),
+    }
+}
+
+/// Does what the words ask for: reads files, compiles and runs kernels, and writes the answer.
+///
+/// `words` are the words behind the program's name. `rt` lends threads, of which a launch of one warp needs none, and
+/// `gate` holds no one yet. The report says why the call ended; `specs/Meets.antt` says what that means.
+pub fn vx<R: Threads + Sync, F: Files, O: Out, G: Gate + Sync>(
+    _rt: &R,
+    alloc: Global,
+    words: &[String],
+    files: &mut F,
+    out: &mut O,
+    _gate: &G,
+) -> Report
+    ensures { VxMeets (F.held files.old) (map string_bytes words.now)
+        (record { read_faults = F.faults files.old; misses = F.misses files.old; write_faults = O.faults out.old; written = O.written out.old })
+        (record { read_faults = F.faults files.new; misses = F.misses files.new; write_faults = O.faults out.new; written = O.written out.new })
+        result }
+{
+    match answer(alloc, files, words) {
+        Ok(text) => deliver_answer(out, Cause::Done, &text),
+        Err(Stop::Refused(cause)) => match cause_line(alloc, &cause) {
+            Ok(line) => deliver_answer(out, cause, &line),
+            Err(_) => report(Cause::Memory),
+        },
+        Err(Stop::Memory) => report(Cause::Memory),
+    }
+}
