@@ -1,0 +1,106 @@
+use super::*;
+use std::test::Fail;
+use vx_world::{CallList, Entry, EntryList, MemFiles, MemOut, NoGate};
+
+const TRIPLES: &str = "__kernel void k(__global int *a) { a[get_global_id(0)] = get_global_id(0) * 3 + 1; }";
+const DOUBLES: &str = "__kernel void k(__global int *a, __global int *b) { b[get_global_id(0)] = a[get_global_id(0)] * 2 - get_global_id(0); }";
+const SUMS: &str = "__kernel void vadd(__global const int *a, __global const int *b, __global int *c) { int i = get_global_id(0); c[i] = a[i] + b[i]; }";
+const FIVE_SIX_SEVEN: [u8; 12] = [5, 0, 0, 0, 6, 0, 0, 0, 7, 0, 0, 0];
+const TRIPLE_WORDS: [&str; 5] = ["run", "v.cl", "buf=a:int:zero:4", "do=k/4/4/a", "show=a"];
+
+// What a call answers over files in memory, where the reads and writes with these numbers fail.
+#[derive(Drop)]
+struct Answer {
+    status: u8,
+    text: Vec<u8>,
+}
+
+fn text_of(alloc: Global, bytes: &[u8]) -> Result<Text, Fail> {
+    Ok(Text {
+        items: Vec::from_slice(alloc, bytes)?,
+    })
+}
+
+fn calls_of(alloc: Global, numbers: &[u64]) -> Result<CallList, Fail> {
+    Ok(CallList {
+        items: Vec::from_slice(alloc, numbers)?,
+    })
+}
+
+fn answer_to<R: Threads + Sync>(
+    rt: &R,
+    alloc: Global,
+    words: &[&str],
+    source: &str,
+    failing_reads: &[u64],
+    failing_writes: &[u64],
+    most: usize,
+) -> Result<Answer, Fail> {
+    let mut strings = Vec::new(alloc);
+    for word in words {
+        strings.push(String::from_str(alloc, word)?)?;
+    }
+    let mut entries = Vec::new(alloc);
+    entries.push(Entry {
+        name: text_of(alloc, b"v.cl")?,
+        bytes: text_of(alloc, source.as_bytes())?,
+    })?;
+    entries.push(Entry {
+        name: text_of(alloc, b"a.bin")?,
+        bytes: text_of(alloc, &FIVE_SIX_SEVEN)?,
+    })?;
+    let mut files = MemFiles::new(
+        EntryList { items: entries },
+        calls_of(alloc, failing_reads)?,
+    );
+    let mut out = MemOut::new(alloc, calls_of(alloc, failing_writes)?, most.max(1));
+    let report = vx(rt, alloc, &strings, &mut files, &mut out, &NoGate);
+    Ok(Answer {
+        status: report.status,
+        text: Vec::from_slice(alloc, out.written())?,
+    })
+}
+
+#[test]
+fn answers_rows(rt: HostRuntime) -> Result<(), Fail> {
+    let double_words = ["run", "v.cl", "buf=a:int:in:a.bin", "buf=b:int:zero:3", "do=k/3/3/a,b", "show=b"];
+    let sum_words = ["run", "v.cl", "buf=a:int:in:a.bin", "buf=b:int:in:a.bin", "buf=c:int:zero:3", "do=vadd/3/3/a,b,c", "show=c"];
+    let rows: [(&[&str], &str, u8, &str); 12] = [
+        (&TRIPLE_WORDS, TRIPLES, 0, "a int 4\n1 4 7 10\n"),
+        (&double_words, DOUBLES, 0, "b int 3\n10 11 12\n"),
+        (&["run", "v.cl", "buf=a:int:zero:5", "do=k/4/4/a", "show=a"], TRIPLES, 3, "buffer 0 Length 20 4\n"),
+        (&sum_words, SUMS, 2, "source 1:1 Subset\n"),
+        (&["run", "v.cl", "buf=a:int:zero:4", "do=k/4/4", "show=a"], TRIPLES, 3, "launch 0 Arguments 0 1\n"),
+        (&["run", "v.cl", "buf=a:int:zero:4", "do=k/33/33/a", "show=a"], TRIPLES, 1, "usage word 0 Form\n"),
+        (&["fly"], TRIPLES, 1, "usage word 0 Command\n"),
+        (&[], TRIPLES, 1, "usage word 0 Command\n"),
+        (&["run", "v.cl", "buf=a:int:zero:4", "do=w/4/4/a"], TRIPLES, 3, "launch 0 NoEntry\n"),
+        (&["run", "w.cl", "buf=a:int:zero:4", "do=k/4/4/a"], TRIPLES, 10, "missing w.cl\n"),
+        (&["run", "v.cl", "buf=a:int:in:b.bin", "do=k/3/3/a"], TRIPLES, 10, "missing b.bin\n"),
+        (&["run", "v.cl", "buf=a:int:in:a.bin", "do=k/2/2/a"], TRIPLES, 3, "buffer 0 Length 9 4\n"),
+    ];
+    for (words, source, status, text) in rows {
+        let answer = answer_to(&rt, rt.alloc(), words, source, &[], &[], 4096)?;
+        assert_eq!(rt; answer.status, status, "{text}");
+        assert_eq!(rt; answer.text.as_slice(), text.as_bytes(), "{text}");
+    }
+    Ok(())
+}
+
+#[test]
+fn faults_leave_a_front(rt: HostRuntime) -> Result<(), Fail> {
+    let whole = b"a int 4\n1 4 7 10\n".as_slice();
+    let bytewise = answer_to(&rt, rt.alloc(), &TRIPLE_WORDS, TRIPLES, &[], &[], 1)?;
+    assert_eq!(rt; bytewise.status, 0);
+    assert_eq!(rt; bytewise.text.as_slice(), whole);
+    let unread = answer_to(&rt, rt.alloc(), &TRIPLE_WORDS, TRIPLES, &[0], &[], 1)?;
+    assert_eq!(rt; unread.status, 7);
+    assert_eq!(rt; unread.text.as_slice(), b"read fault\n".as_slice());
+    for call in 0..17 {
+        let answer = answer_to(&rt, rt.alloc(), &TRIPLE_WORDS, TRIPLES, &[], &[call], 1)?;
+        assert_eq!(rt; answer.status, 8, "call {call}");
+        assert_eq!(rt; answer.text.as_slice(), &whole[..answer.text.len().min(whole.len())], "call {call}");
+        assert_eq!(rt; answer.text.len() as u64, call, "call {call}");
+    }
+    Ok(())
+}
