@@ -5,7 +5,6 @@
 use std::alloc::AllocError;
 use std::env;
 use std::process::ExitCode;
-
 use vx_run::vx;
 use vx_world::{FolderFiles, NoGate, StreamOut};
 

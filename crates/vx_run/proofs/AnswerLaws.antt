@@ -60,25 +60,25 @@ whole_is_front held name bytes front short = sym (take_all 1048577 front.whole (
 -- the front is all of it where it is short enough
 front_is_whole : (held : Option (List Entry)) (name bytes : List ℕ) (front : ReadsFront held name 1048577 bytes) → length bytes ≤ 1048576 → length front.whole ≤ 1048576
 front_is_whole held name bytes front short =
-  let cut : length bytes ≡ min 1048577 (length front.whole) = ap length (sym front.front) ∙ length-take 1048577 front.whole in
-  omega (arith, cut, short)
+    let cut : length bytes ≡ min 1048577 (length front.whole) = ap length (sym front.front) ∙ length-take 1048577 front.whole in
+    omega (arith, cut, short)
 
 -- a file that is no kernel's is refused
 pub no_kernel_stops : (held : Option (List Entry)) (c : RunWords) (bytes : List ℕ) → ReadsFront held c.file 1048577 bytes → (s : Stop) → IsNoKernel bytes s → StopsAt (FromFile held c) s
 no_kernel_stops held c bytes front (stop.Refused (Source pos kind)) h =
-  let none : (k : tree.Form) → IsKernelFile front.whole k → ⊥ = λ k is. h.2 k (subst (λ x. IsKernelFile x k) (whole_is_front held c.file bytes front is.few) is) in
-  let refused : FromFile held c (Refuses (Source first_place Subset)) = HasFile front.whole (Refuses (Source first_place Subset)) front.holds (NoKernel none) in
-  subst (λ p. FromFile held c (Refuses (Source p kind))) (sym h.0) (subst (λ x. FromFile held c (Refuses (Source first_place x))) (sym h.1) refused)
+    let none : (k : tree.Form) → IsKernelFile front.whole k → ⊥ = λ k is. h.2 k (subst (λ x. IsKernelFile x k) (whole_is_front held c.file bytes front is.few) is) in
+    let refused : FromFile held c (Refuses (Source first_place Subset)) = HasFile front.whole (Refuses (Source first_place Subset)) front.holds (NoKernel none) in
+    subst (λ p. FromFile held c (Refuses (Source p kind))) (sym h.0) (subst (λ x. FromFile held c (Refuses (Source first_place x))) (sym h.1) refused)
 no_kernel_stops held c bytes front (stop.Refused (ReadFault faults)) h = absurd h
 no_kernel_stops held c bytes front (stop.Refused other) h = absurd h
 no_kernel_stops held c bytes front stop.Memory h = tt
 
 -- what comes of the kernel's entry comes of its file
 pub kernel_comes : (held : Option (List Entry)) (c : RunWords) (bytes : List ℕ) → ReadsFront held c.file 1048577 bytes → (k : tree.Form) → IsKernelFile bytes k →
-  (o : Outcome) → FromEntry held c k o → FromFile held c o
+    (o : Outcome) → FromEntry held c k o → FromFile held c o
 kernel_comes held c bytes front k is o h =
-  let same : front.whole ≡ bytes = whole_is_front held c.file bytes front (front_is_whole held c.file bytes front is.few) in
-  HasFile front.whole o front.holds (subst (λ x. FromSource held c x o) (sym same) (HasKernel k o is h))
+    let same : front.whole ≡ bytes = whole_is_front held c.file bytes front (front_is_whole held c.file bytes front is.few) in
+    HasFile front.whole o front.holds (subst (λ x. FromSource held c x o) (sym same) (HasKernel k o is h))
 
 -- what is known of numbers of buffers
 numbers_below : (buffers : List BufWord) (ns : List ℕ) (names : List (List ℕ)) → AreNumbersOf buffers ns names → AllByRecursion (λ b. b < length buffers) ns
@@ -100,29 +100,29 @@ runnable words c h = record {
 
 -- words that are not read are refused
 pub usage_stops : (held : Option (List Entry)) (words : List (List ℕ)) (fault : UsageFault) (s : Stop) →
-  ((word : ℕ) → fault ≡ usage.Usage word Command → (word ≡ 0) × (¬ (BeginsRun words))) →
-  ((word : ℕ) → fault ≡ usage.Usage word Form → (word ≡ 0) × BeginsRun words × ((c : RunWords) → ¬ (IsRun words c))) →
-  StopsFor fault s → StopsAt (FromWords held words) s
+    ((word : ℕ) → fault ≡ usage.Usage word Command → (word ≡ 0) × (¬ (BeginsRun words))) →
+    ((word : ℕ) → fault ≡ usage.Usage word Form → (word ≡ 0) × BeginsRun words × ((c : RunWords) → ¬ (IsRun words c))) →
+    StopsFor fault s → StopsAt (FromWords held words) s
 usage_stops held words (usage.Usage word Command) s command form is =
-  let h = command word refl in
-  subst (StopsAt (FromWords held words)) (sym is) (subst (λ w. FromWords held words (Refuses (Usage w Command))) (sym h.0) (NoCommand h.1))
+    let h = command word refl in
+    subst (StopsAt (FromWords held words)) (sym is) (subst (λ w. FromWords held words (Refuses (Usage w Command))) (sym h.0) (NoCommand h.1))
 usage_stops held words (usage.Usage word Form) s command form is =
-  let h = form word refl in
-  subst (StopsAt (FromWords held words)) (sym is) (subst (λ w. FromWords held words (Refuses (Usage w Form))) (sym h.0) (NoForm h.1 h.2))
+    let h = form word refl in
+    subst (StopsAt (FromWords held words)) (sym is) (subst (λ w. FromWords held words (Refuses (Usage w Form))) (sym h.0) (NoForm h.1 h.2))
 usage_stops held words usage.Memory s command form is = subst (StopsAt (FromWords held words)) (sym is) tt
 
 -- another number of arguments is refused
 pub arguments_refused : (c : RunWords) (k : tree.Form) (contents : List (List ℕ)) (given wanted : ℕ) → given ≡ length c.arguments → wanted ≡ length k.parameters → given ≢ wanted →
-  FromArguments c k contents (Refuses (Launch 0 (Arguments (min given (2 ^ 32 - 1)) wanted)))
+    FromArguments c k contents (Refuses (Launch 0 (Arguments (min given (2 ^ 32 - 1)) wanted)))
 arguments_refused c k contents given wanted e f other =
-  subst (λ n. FromArguments c k contents (Refuses (Launch 0 (Arguments (min n (2 ^ 32 - 1)) wanted)))) (sym e)
+    subst (λ n. FromArguments c k contents (Refuses (Launch 0 (Arguments (min n (2 ^ 32 - 1)) wanted)))) (sym e)
     (subst (λ n. FromArguments c k contents (Refuses (Launch 0 (Arguments (min (length c.arguments) (2 ^ 32 - 1)) n)))) (sym f)
-      (WrongArguments (λ same. other (e ∙ same ∙ sym f))))
+    (WrongArguments (λ same. other (e ∙ same ∙ sym f))))
 
 -- what a launch leaves is printed
 pub launch_prints : (c : RunWords) (k : tree.Form) (contents : List (List ℕ)) (text : List ℕ) → length c.arguments ≡ length k.parameters →
-  ((left : ℕ → ℕ → ℕ) × LaunchLeaves (launch_of k c.arguments c.items (length c.buffers)) (bytes_in contents) left × (text ≡ output_text c left)) →
-  FromArguments c k contents (Prints text)
+    ((left : ℕ → ℕ → ℕ) × LaunchLeaves (launch_of k c.arguments c.items (length c.buffers)) (bytes_in contents) left × (text ≡ output_text c left)) →
+    FromArguments c k contents (Prints text)
 launch_prints c k contents text same h = subst (λ t. FromArguments c k contents (Prints t)) (sym h.2) (Runs same h.0 h.1)
 
 -- a kernel with another name is refused

@@ -8,9 +8,9 @@ use Rattle.vx_run.specs.Layout.{fields_from}
 
 -- what is made of one element more
 pub flat_map-take-more : {X A : Type 0} (f : X → List A) (xs : List X) (i : ℕ) (x : X) → i < length xs → x ≡ get_or xs i x →
-  flat_map f (take (i + 1) xs) ≡ flat_map f (take i xs) ++ f x
+    flat_map f (take (i + 1) xs) ≡ flat_map f (take i xs) ++ f x
 flat_map-take-more f xs i x within is =
-  ap (flat_map f) (take_more xs i x within) ∙ flat_map-append f (take i xs) (get_or xs i x ∷ [])
+    ap (flat_map f) (take_more xs i x within) ∙ flat_map-append f (take i xs) (get_or xs i x ∷ [])
     ∙ ap (λ y. flat_map f (take i xs) ++ y) (append-nil (f (get_or xs i x)) ∙ ap f (sym is))
 
 -- one int more

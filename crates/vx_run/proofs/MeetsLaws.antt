@@ -30,7 +30,7 @@ module _ (held : Option (List Entry)) (words : List (List ℕ)) where
   pub data Ended (before now : Outside) (report : Report) : Type 0 where
     AtText : (text : List ℕ) → report.cause ≡ Done → FromWords held words (Prints text) → Appends before.written now.written text → Ended before now report
     AtRefusal : (c : Cause) → report.cause ≡ c → IsRefusal (FromWords held words) c → CausesFaults c before.read_faults now.read_faults →
-      CausesMisses c before.misses now.misses → Ended before now report
+        CausesMisses c before.misses now.misses → Ended before now report
     AtSink : report.cause ≡ WriteFault 1 → Rose before.write_faults now.write_faults → Ended before now report
     AtMemory : report.cause ≡ Memory → Ended before now report
 
@@ -92,7 +92,7 @@ module _ (held : Option (List Entry)) (words : List (List ℕ)) (before now : Ou
   only_refused : (c : Cause) → IsAnswerable c → Ended held words before now report → report.cause ≡ c → IsRefused held words c
   only_refused c may (AtText text e from appends) f = absurd (subst IsAnswerable (sym f ∙ e) may)
   only_refused c may (AtRefusal d e is faults misses) f =
-    elim (refusal_cases (FromWords held words) c (subst (IsRefusal (FromWords held words)) (sym e ∙ f) is)) [ inl fault ↦ absurd (subst IsAnswerable fault.1 may) | inr h ↦ h ]
+      elim (refusal_cases (FromWords held words) c (subst (IsRefusal (FromWords held words)) (sym e ∙ f) is)) [ inl fault ↦ absurd (subst IsAnswerable fault.1 may) | inr h ↦ h ]
   only_refused c may (AtSink e rose) f = absurd (subst IsAnswerable (sym f ∙ e) may)
   only_refused c may (AtMemory e) f = absurd (subst IsAnswerable (sym f ∙ e) may)
 
@@ -100,13 +100,13 @@ module _ (held : Option (List Entry)) (words : List (List ℕ)) (before now : Ou
   refused_ends : (c : Cause) → ((o : Outcome) → FromWords held words o → Agree (Refuses c) o) → Ended held words before now report → EndsUnread report c
   refused_ends c agree (AtText text e from appends) = absurd (agree (Prints text) from)
   refused_ends c agree (AtRefusal d e is faults misses) =
-    elim (refusal_cases (FromWords held words) d is) [ inl fault ↦ inr (fault.0, e ∙ fault.1) | inr h ↦ inl (inl (e ∙ sym (agree (Refuses d) h))) ]
+      elim (refusal_cases (FromWords held words) d is) [ inl fault ↦ inr (fault.0, e ∙ fault.1) | inr h ↦ inl (inl (e ∙ sym (agree (Refuses d) h))) ]
   refused_ends c agree (AtSink e rose) = inl (inr (inl (1, e)))
   refused_ends c agree (AtMemory e) = inl (inr (inr e))
 
   -- no other cause than these, a fault, want of memory and the end
   never : (c : Cause) → (IsAnswerable c → ⊥) → (IsRefusal (FromWords held words) c → IsAnswerable c) → (Done ≡ c → ⊥) → (WriteFault 1 ≡ c → ⊥) → (Memory ≡ c → ⊥) →
-    Ended held words before now report → report.cause ≡ c → ⊥
+      Ended held words before now report → report.cause ≡ c → ⊥
   never c not may done sink memory (AtText text e from appends) f = done (sym e ∙ f)
   never c not may done sink memory (AtRefusal d e is faults misses) f = not (may (subst (IsRefusal (FromWords held words)) (sym e ∙ f) is))
   never c not may done sink memory (AtSink e rose) f = sink (sym e ∙ f)
@@ -122,7 +122,8 @@ module _ (held : Option (List Entry)) (words : List (List ℕ)) (before now : Ou
   only_read_fault faults (AtText text e from appends) f = let g : Done ≡ ReadFault faults = sym e ∙ f in cc
   only_read_fault faults (AtRefusal d e is causes misses) f = (
     subst (IsRefusal (FromWords held words)) (sym e ∙ f) is,
-    subst (λ c. CausesFaults c before.read_faults now.read_faults) (sym e ∙ f) causes)
+    subst (λ c. CausesFaults c before.read_faults now.read_faults) (sym e ∙ f) causes,
+  )
   only_read_fault faults (AtSink e rose) f = let g : WriteFault 1 ≡ ReadFault faults = sym e ∙ f in cc
   only_read_fault faults (AtMemory e) f = let g : Memory ≡ ReadFault faults = sym e ∙ f in cc
 
@@ -139,18 +140,19 @@ module _ (held : Option (List Entry)) (words : List (List ℕ)) (before now : Ou
   only_done (AtMemory e) f = let g : Memory ≡ Done = sym e ∙ f in absurd (cc)
 
   ends_well : Ended held words before now report → ((c : Cause) → IsRefused held words c → ⊥) → (Rose before.read_faults now.read_faults → ⊥) →
-    (Rose before.write_faults now.write_faults → ⊥) → (report.cause ≡ Done) ⊎ (report.cause ≡ Memory)
+      (Rose before.write_faults now.write_faults → ⊥) → (report.cause ≡ Done) ⊎ (report.cause ≡ Memory)
   ends_well (AtText text e from appends) none read write = inl e
   ends_well (AtRefusal d e is causes misses) none read write =
-    elim (refusal_cases (FromWords held words) d is) [
-      inl fault ↦ absurd (read (subst (λ c. CausesFaults c before.read_faults now.read_faults) fault.1 causes))
-    | inr h ↦ absurd (none d h) ]
+      elim (refusal_cases (FromWords held words) d is) [
+        | inl fault ↦ absurd (read (subst (λ c. CausesFaults c before.read_faults now.read_faults) fault.1 causes))
+        | inr h ↦ absurd (none d h)
+      ]
   ends_well (AtSink e rose) none read write = absurd (write rose)
   ends_well (AtMemory e) none read write = inr e
 
   -- what is known of a call's end is what it meets
   pub meets : report.status ≡ status_of report.cause → Ended held words before now report → IsPrefix held words before.written now.written report →
-    VxMeets held words before now report
+      VxMeets held words before now report
   meets status ended prefix = record {
     status = status;
     usage = λ word kind. (only_refused (Usage word kind) tt ended, λ h. refused_ends (Usage word kind) (λ o h'. one_usage held words word kind o h h') ended);
@@ -175,38 +177,39 @@ status_kept cause report h = h.status ∙ ap status_of (sym h.cause_is)
 module _ (held : Option (List Entry)) (words : List (List ℕ)) (before now : Outside) (report : Report) where
   -- a text that is delivered
   pub meets_printed : (text : List ℕ) → FromWords held words (Prints text) →
-    Delivers Done text before.written now.written before.write_faults now.write_faults report → VxMeets held words before now report
+      Delivers Done text before.written now.written before.write_faults now.write_faults report → VxMeets held words before now report
   meets_printed text from (WholeText r appends) =
-    meets held words before now report (status_kept Done report r) (AtText text r.cause_is from appends)
+      meets held words before now report (status_kept Done report r) (AtText text r.cause_is from appends)
       (promises.WholeText Done text (PrintedText text from) r.cause_is appends)
   meets_printed text from (SinkFailed r rose some) =
-    meets held words before now report (status_kept (WriteFault 1) report r) (AtSink r.cause_is rose)
+      meets held words before now report (status_kept (WriteFault 1) report r) (AtSink r.cause_is rose)
       (promises.FrontOfText Done text 1 (PrintedText text from) (inl r.cause_is) some)
   meets_printed text from (NoMemory r some) =
-    meets held words before now report (status_kept Memory report r) (AtMemory r.cause_is)
+      meets held words before now report (status_kept Memory report r) (AtMemory r.cause_is)
       (promises.FrontOfText Done text 1 (PrintedText text from) (inr r.cause_is) some)
 
   -- the line of a refusal
   line_text : (c : Cause) → IsRefusal (FromWords held words) c → AnswerText held words c (line_of c)
   line_text c is = elim (refusal_cases (FromWords held words) c is) [
-      inl fault ↦ subst (λ d. AnswerText held words d (line_of d)) (sym (fault.1 ∙ ap ReadFault fault.2)) FaultLine
-    | inr h ↦ RefusalLine c h ]
+    | inl fault ↦ subst (λ d. AnswerText held words d (line_of d)) (sym (fault.1 ∙ ap ReadFault fault.2)) FaultLine
+    | inr h ↦ RefusalLine c h
+  ]
 
   -- a refusal whose line is delivered
   pub meets_refused : (c : Cause) → IsRefusal (FromWords held words) c → CausesFaults c before.read_faults now.read_faults → CausesMisses c before.misses now.misses →
-    Delivers c (line_of c) before.written now.written before.write_faults now.write_faults report → VxMeets held words before now report
+      Delivers c (line_of c) before.written now.written before.write_faults now.write_faults report → VxMeets held words before now report
   meets_refused c is faults misses (WholeText r appends) =
-    meets held words before now report (status_kept c report r) (AtRefusal c r.cause_is is faults misses)
+      meets held words before now report (status_kept c report r) (AtRefusal c r.cause_is is faults misses)
       (promises.WholeText c (line_of c) (line_text c is) r.cause_is appends)
   meets_refused c is faults misses (SinkFailed r rose some) =
-    meets held words before now report (status_kept (WriteFault 1) report r) (AtSink r.cause_is rose)
+      meets held words before now report (status_kept (WriteFault 1) report r) (AtSink r.cause_is rose)
       (promises.FrontOfText c (line_of c) 1 (line_text c is) (inl r.cause_is) some)
   meets_refused c is faults misses (NoMemory r some) =
-    meets held words before now report (status_kept Memory report r) (AtMemory r.cause_is)
+      meets held words before now report (status_kept Memory report r) (AtMemory r.cause_is)
       (promises.FrontOfText c (line_of c) 1 (line_text c is) (inr r.cause_is) some)
 
   -- want of memory before anything is written
   pub meets_memory : IsReportOf Memory report → now.written ≡ before.written → VxMeets held words before now report
   meets_memory r same =
-    meets held words before now report (status_kept Memory report r) (AtMemory r.cause_is)
+      meets held words before now report (status_kept Memory report r) (AtMemory r.cause_is)
       (promises.NoText r.cause_is (λ x e. same ∙ e ∙ ap Some (sym (append-nil x))))

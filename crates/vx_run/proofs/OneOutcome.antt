@@ -53,8 +53,8 @@ module _ (entries : List Entry) where
   -- a file that is not there brings nothing
   brings_none : (from : BufFrom) (path bytes : List ℕ) → from ≡ File path → bytes_named entries path ≡ None → Brings told from bytes → ⊥
   brings_none from path bytes e none h =
-    let there : Brings told (File path) bytes = subst (λ f. Brings told f bytes) e h in
-    some_none (bytes_named entries path) bytes there none
+      let there : Brings told (File path) bytes = subst (λ f. Brings told f bytes) e h in
+      some_none (bytes_named entries path) bytes there none
 
   one_path : (from : BufFrom) (path other : List ℕ) → from ≡ File path → from ≡ File other → path ≡ other
   one_path from path other e f = cc
@@ -66,26 +66,26 @@ module _ (entries : List Entry) where
   one_arguments c k contents o p (Runs same left leaves) (Runs same' left' leaves') = tt
 
   one_buffers : (c : RunWords) (k : Form) (index : ℕ) (bs : List BufWord) (contents : List (List ℕ)) (o p : Outcome) →
-    FromBuffers told c k index bs contents o → FromBuffers told c k index bs contents p → Agree o p
+      FromBuffers told c k index bs contents o → FromBuffers told c k index bs contents p → Agree o p
   one_buffers c k index [] contents o p (NoBuffers i cs q h) (NoBuffers i' cs' q' h') = one_arguments c k contents o p h h'
   one_buffers c k index (b ∷ more) contents o p (NoBufferFile i cs b' more' path e none) (NoBufferFile i' cs' b'' more'' path' e' none') =
-    ap cause.Missing (one_path b.from path path' e e')
+      ap cause.Missing (one_path b.from path path' e e')
   one_buffers c k index (b ∷ more) contents o p (NoBufferFile i cs b' more' path e none) (WrongLength i' cs' b'' more'' bytes brings other) =
-    absurd (brings_none b.from path bytes e none brings)
+      absurd (brings_none b.from path bytes e none brings)
   one_buffers c k index (b ∷ more) contents o p (NoBufferFile i cs b' more' path e none) (NextBuffer i' cs' b'' more'' bytes q brings whole rest) =
-    absurd (brings_none b.from path bytes e none brings)
+      absurd (brings_none b.from path bytes e none brings)
   one_buffers c k index (b ∷ more) contents o p (WrongLength i cs b' more' bytes brings other) (NoBufferFile i' cs' b'' more'' path e none) =
-    absurd (brings_none b.from path bytes e none brings)
+      absurd (brings_none b.from path bytes e none brings)
   one_buffers c k index (b ∷ more) contents o p (WrongLength i cs b' more' bytes brings other) (WrongLength i' cs' b'' more'' bytes' brings' other') =
-    ap (λ x. cause.Buffer index (buffer.Length (counted_bytes b.from x (4 * c.items)) 4)) (one_content b.from bytes bytes' brings brings')
+      ap (λ x. cause.Buffer index (buffer.Length (counted_bytes b.from x (4 * c.items)) 4)) (one_content b.from bytes bytes' brings brings')
   one_buffers c k index (b ∷ more) contents o p (WrongLength i cs b' more' bytes brings other) (NextBuffer i' cs' b'' more'' bytes' q brings' whole rest) =
-    absurd (other (ap length (one_content b.from bytes bytes' brings brings') ∙ whole))
+      absurd (other (ap length (one_content b.from bytes bytes' brings brings') ∙ whole))
   one_buffers c k index (b ∷ more) contents o p (NextBuffer i cs b' more' bytes q brings whole rest) (NoBufferFile i' cs' b'' more'' path e none) =
-    absurd (brings_none b.from path bytes e none brings)
+      absurd (brings_none b.from path bytes e none brings)
   one_buffers c k index (b ∷ more) contents o p (NextBuffer i cs b' more' bytes q brings whole rest) (WrongLength i' cs' b'' more'' bytes' brings' other) =
-    absurd (other (ap length (one_content b.from bytes' bytes brings' brings) ∙ whole))
+      absurd (other (ap length (one_content b.from bytes' bytes brings' brings) ∙ whole))
   one_buffers c k index (b ∷ more) contents o p (NextBuffer i cs b' more' bytes q brings whole rest) (NextBuffer i' cs' b'' more'' bytes' q' brings' whole' rest') =
-    one_buffers c k (suc index) more (contents ++ bytes ∷ []) o p rest
+      one_buffers c k (suc index) more (contents ++ bytes ∷ []) o p rest
       (subst (λ x. FromBuffers told c k (suc index) more (contents ++ x ∷ []) p) (one_content b.from bytes' bytes brings' brings) rest')
 
   one_entry : (c : RunWords) (k : Form) (o p : Outcome) → FromEntry told c k o → FromEntry told c k p → Agree o p
@@ -99,14 +99,14 @@ module _ (entries : List Entry) where
   one_source c bytes o p (NoKernel none) (HasKernel k q is h) = absurd (none k is)
   one_source c bytes o p (HasKernel k q is h) (NoKernel none) = absurd (none k is)
   one_source c bytes o p (HasKernel k q is h) (HasKernel k' q' is' h') =
-    one_entry c k o p h (subst (λ f. FromEntry told c f p) (one_kernel bytes k' k is' is) h')
+      one_entry c k o p h (subst (λ f. FromEntry told c f p) (one_kernel bytes k' k is' is) h')
 
   one_file : (c : RunWords) (o p : Outcome) → FromFile told c o → FromFile told c p → Agree o p
   one_file c o p (NoFile none) (NoFile none') = refl
   one_file c o p (NoFile none) (HasFile bytes q there h) = absurd (some_none (bytes_named entries c.file) bytes there none)
   one_file c o p (HasFile bytes q there h) (NoFile none) = absurd (some_none (bytes_named entries c.file) bytes there none)
   one_file c o p (HasFile bytes q there h) (HasFile bytes' q' there' h') =
-    one_source c bytes o p h (subst (λ x. FromSource told c x p) (some_same (bytes_named entries c.file) bytes' bytes there' there) h')
+      one_source c bytes o p h (subst (λ x. FromSource told c x p) (some_same (bytes_named entries c.file) bytes' bytes there' there) h')
 
   -- two outcomes of one call agree
   pub one_outcome : (words : List (List ℕ)) (o p : Outcome) → FromWords told words o → FromWords told words p → Agree o p
@@ -119,7 +119,7 @@ module _ (entries : List Entry) where
   one_outcome words o p (HasForm c q is h) (NoCommand other) = absurd (other (begins words c is))
   one_outcome words o p (HasForm c q is h) (NoForm run none) = absurd (none c is)
   one_outcome words o p (HasForm c q is h) (HasForm c' q' is' h') =
-    one_file c o p h (subst (λ x. FromFile told x p) (IsRun-same words c' c is' is) h')
+      one_file c o p h (subst (λ x. FromFile told x p) (IsRun-same words c' c is' is) h')
 
 -- no stage behind the words refuses them
 module _ (held : Option (List Entry)) (word : ℕ) (kind : UsageKind) where
@@ -138,7 +138,7 @@ module _ (held : Option (List Entry)) (word : ℕ) (kind : UsageKind) where
 
 -- refused words come to nothing else, whatever the files tell
 pub one_usage : (held : Option (List Entry)) (words : List (List ℕ)) (word : ℕ) (kind : UsageKind) (o : Outcome) → FromWords held words (Refuses (cause.Usage word kind)) → FromWords held words o →
-  Agree (Refuses (cause.Usage word kind)) o
+    Agree (Refuses (cause.Usage word kind)) o
 one_usage held words word kind o (NoCommand other) (NoCommand other') = refl
 one_usage held words word kind o (NoCommand other) (NoForm run none) = absurd (other run)
 one_usage held words word kind o (NoCommand other) (HasForm c q is h) = absurd (other (begins words c is))

@@ -14,8 +14,8 @@ mapped_some f (Some x) y e = (x, refl, cc)
 
 -- what was read is the front of a file, where the files tell what they have, and else of itself
 pub front_read : (held : Option (List Entry)) (name : List ℕ) (most : ℕ) (bytes : List ℕ) →
-  ForSome held (λ entries. option_map (take most) (bytes_named entries name) ≡ Some bytes) → length bytes ≤ most → ReadsFront held name most bytes
+    ForSome held (λ entries. option_map (take most) (bytes_named entries name) ≡ Some bytes) → length bytes ≤ most → ReadsFront held name most bytes
 front_read None name most bytes told few = record { whole = bytes; holds = tt; front = take_all most bytes few }
 front_read (Some entries) name most bytes told few =
-  let found = mapped_some (take most) (bytes_named entries name) bytes (told entries refl) in
-  record { whole = found.0; holds = found.1; front = found.2 }
+    let found = mapped_some (take most) (bytes_named entries name) bytes (told entries refl) in
+    record { whole = found.0; holds = found.1; front = found.2 }

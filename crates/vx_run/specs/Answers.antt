@@ -51,22 +51,22 @@ bytes_in contents b byte = slice_index (slice_index_or contents b []) byte
 -- The arguments and the run: as many arguments as parameters (their number is kept as 2^32 - 1 where it is greater), and then the launch leaves bytes that are printed.
 pub data FromArguments (c : RunWords) (k : Form) (contents : List (List ℕ)) : Outcome → Type 0 where
   WrongArguments : length c.arguments ≢ length k.parameters →
-    FromArguments c k contents (Refuses (cause.Launch 0 (launch.Arguments (min (length c.arguments) (2 ^ 32 - 1)) (length k.parameters))))
+      FromArguments c k contents (Refuses (cause.Launch 0 (launch.Arguments (min (length c.arguments) (2 ^ 32 - 1)) (length k.parameters))))
   Runs : length c.arguments ≡ length k.parameters → (left : ℕ → ℕ → ℕ) →
-    LaunchLeaves (launch_of k c.arguments c.items (length c.buffers)) (bytes_in contents) left →
-    FromArguments c k contents (Prints (output_text c left))
+      LaunchLeaves (launch_of k c.arguments c.items (length c.buffers)) (bytes_in contents) left →
+      FromArguments c k contents (Prints (output_text c left))
 
 -- The buffers in order, from this number on, behind those with these contents: each file is there, and each buffer has an
 -- int for each work-item.
 pub data FromBuffers (held : Option (List Entry)) (c : RunWords) (k : Form) : ℕ → List BufWord → List (List ℕ) → Outcome → Type 0 where
   NoBuffers : (index : ℕ) (contents : List (List ℕ)) (o : Outcome) → FromArguments c k contents o → FromBuffers held c k index [] contents o
   NoBufferFile : (index : ℕ) (contents : List (List ℕ)) (b : BufWord) (more : List BufWord) (path : List ℕ) → b.from ≡ File path → Holds held path None →
-    FromBuffers held c k index (b ∷ more) contents (Refuses (cause.Missing path))
+      FromBuffers held c k index (b ∷ more) contents (Refuses (cause.Missing path))
   WrongLength : (index : ℕ) (contents : List (List ℕ)) (b : BufWord) (more : List BufWord) (bytes : List ℕ) → Brings held b.from bytes →
-    length bytes ≢ 4 * c.items →
-    FromBuffers held c k index (b ∷ more) contents (Refuses (cause.Buffer index (buffer.Length (counted_bytes b.from bytes (4 * c.items)) 4)))
+      length bytes ≢ 4 * c.items →
+      FromBuffers held c k index (b ∷ more) contents (Refuses (cause.Buffer index (buffer.Length (counted_bytes b.from bytes (4 * c.items)) 4)))
   NextBuffer : (index : ℕ) (contents : List (List ℕ)) (b : BufWord) (more : List BufWord) (bytes : List ℕ) (o : Outcome) → Brings held b.from bytes →
-    length bytes ≡ 4 * c.items → FromBuffers held c k (suc index) more (contents ++ bytes ∷ []) o → FromBuffers held c k index (b ∷ more) contents o
+      length bytes ≡ 4 * c.items → FromBuffers held c k (suc index) more (contents ++ bytes ∷ []) o → FromBuffers held c k index (b ∷ more) contents o
 
 -- the entry: the kernel has its name
 pub data FromEntry (held : Option (List Entry)) (c : RunWords) (k : Form) : Outcome → Type 0 where

@@ -30,5 +30,5 @@ pub record IsReportOf (cause : Cause) (report : Report) : Type 0 where
 pub data Delivers (cause : Cause) (text : List ℕ) (before now : Option (List ℕ)) (faults_before faults_now : ℕ) (report : Report) : Type 0 where
   WholeText : IsReportOf cause report → Appends before now text → Delivers cause text before now faults_before faults_now report
   SinkFailed : IsReportOf (WriteFault 1) report → Rose faults_before faults_now → AppendsSome before now text →
-    Delivers cause text before now faults_before faults_now report
+      Delivers cause text before now faults_before faults_now report
   NoMemory : IsReportOf NoRoom report → AppendsSome before now text → Delivers cause text before now faults_before faults_now report

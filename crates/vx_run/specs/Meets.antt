@@ -44,9 +44,9 @@ pub data AnswerText (held : Option (List Entry)) (words : List (List ℕ)) : Cau
 -- where the sink failed or memory ran out; or nothing, where memory ran out before.
 pub data IsPrefix (held : Option (List Entry)) (words : List (List ℕ)) (before now : Option (List ℕ)) (report : Report) : Type 0 where
   WholeText : (cause : Cause) (text : List ℕ) → AnswerText held words cause text → report.cause ≡ cause → Appends before now text →
-    IsPrefix held words before now report
+      IsPrefix held words before now report
   FrontOfText : (cause : Cause) (text : List ℕ) (faults : ℕ) → AnswerText held words cause text → (report.cause ≡ WriteFault faults) ⊎ (report.cause ≡ Memory) →
-    AppendsSome before now text → IsPrefix held words before now report
+      AppendsSome before now text → IsPrefix held words before now report
   NoText : report.cause ≡ Memory → Appends before now [] → IsPrefix held words before now report
 
 -- the call is refused for this cause
@@ -58,34 +58,28 @@ IsRefused held words cause = FromWords held words (Refuses cause)
 pub record VxMeets (held : Option (List Entry)) (words : List (List ℕ)) (before now : Outside) (report : Report) : Type 0 where
   -- the status is that of the cause
   pub status : report.status ≡ status_of report.cause
-
   -- each refusal comes exactly where its row of the table of answers says
   pub usage : (word : ℕ) (kind : UsageKind) → (report.cause ≡ Usage word kind → IsRefused held words (Usage word kind))
-    × (IsRefused held words (Usage word kind) → EndsUnread report (Usage word kind))
+      × (IsRefused held words (Usage word kind) → EndsUnread report (Usage word kind))
   pub source : (pos : Pos) (kind : SourceKind) → (report.cause ≡ Source pos kind → IsRefused held words (Source pos kind))
-    × (IsTold held → IsRefused held words (Source pos kind) → EndsUnread report (Source pos kind))
+      × (IsTold held → IsRefused held words (Source pos kind) → EndsUnread report (Source pos kind))
   pub launch : (index : ℕ) (kind : LaunchKind) → (report.cause ≡ Launch index kind → IsRefused held words (Launch index kind))
-    × (IsTold held → IsRefused held words (Launch index kind) → EndsUnread report (Launch index kind))
+      × (IsTold held → IsRefused held words (Launch index kind) → EndsUnread report (Launch index kind))
   pub buffer : (index : ℕ) (kind : BufferKind) → (report.cause ≡ Buffer index kind → IsRefused held words (Buffer index kind))
-    × (IsTold held → IsRefused held words (Buffer index kind) → EndsUnread report (Buffer index kind))
+      × (IsTold held → IsRefused held words (Buffer index kind) → EndsUnread report (Buffer index kind))
   pub missing : (name : List ℕ) → (report.cause ≡ Missing name → IsRefused held words (Missing name) × Rose before.misses now.misses)
-    × (IsTold held → IsRefused held words (Missing name) → EndsUnread report (Missing name))
-
+      × (IsTold held → IsRefused held words (Missing name) → EndsUnread report (Missing name))
   -- no launch of this form traps, is stuck or runs out of turns
   pub trap : (launch : ℕ) (pos : Pos) (item : ℕ) → report.cause ≡ Trap launch pos item → ⊥
   pub stuck : (launch core waiting ended : ℕ) → report.cause ≡ Stuck launch core waiting ended → ⊥
   pub turns : (launch core group count : ℕ) → report.cause ≡ Turns launch core group count → ⊥
-
   -- a fault of the outside is answered only where it was counted
   pub read_fault : (faults : ℕ) → report.cause ≡ ReadFault faults → (faults ≡ 1) × Rose before.read_faults now.read_faults
   pub write_fault : (faults : ℕ) → report.cause ≡ WriteFault faults → (faults ≡ 1) × Rose before.write_faults now.write_faults
-
   -- what is written is always the front of a text, and mostly all of it
   pub prefix : IsPrefix held words before.written now.written report
-
   -- with status 0 the printed buffers are those that the launch leaves, written whole
   pub headline : report.cause ≡ Done → (text : List ℕ) × FromWords held words (Prints text) × Appends before.written now.written text
-
   -- where no refusal's row holds and no fault was counted, the buffers are printed, unless memory ran out
   pub complete : ((cause : Cause) → IsRefused held words cause → ⊥) → (Rose before.read_faults now.read_faults → ⊥) →
-    (Rose before.write_faults now.write_faults → ⊥) → (report.cause ≡ Done) ⊎ (report.cause ≡ Memory)
+      (Rose before.write_faults now.write_faults → ⊥) → (report.cause ≡ Done) ⊎ (report.cause ≡ Memory)

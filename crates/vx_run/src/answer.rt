@@ -6,11 +6,6 @@ ghost use Rattle.vx_run.specs.FirstText.{IsKernelFile, IsWellFormed};
 ghost use Rattle.vx_run.specs.FirstTree.{form_of};
 ghost use Rattle.vx_run.specs.Stages.{ComesTo, IsNoKernel, IsPlain, IsRunnable, StageFaults, StageMisses, StopsFor};
 
-use std::alloc::Global;
-
-use vx_base::{Memory, Pos, Text};
-use vx_world::Files;
-
 use crate::first::parser::parse_kernel;
 use crate::first::tree::Kernel;
 use crate::launch::print_launch;
@@ -19,6 +14,9 @@ use crate::reading::read_file;
 use crate::report::{Cause, LaunchKind, SourceKind};
 use crate::stages::Stop;
 use crate::words::{RunWords, UsageFault, read_words};
+use std::alloc::Global;
+use vx_base::{Memory, Pos, Text};
+use vx_world::Files;
 
 /// The most bytes that a kernel's file may have.
 pub const SOURCE_LIMIT: usize = 1_048_576;

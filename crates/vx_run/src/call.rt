@@ -2,17 +2,15 @@ ghost use Rattle.std.specs.Prelude.{◌≡◌, map, string_bytes};
 ghost use Rattle.vx_run.specs.Delivery.{Delivers, IsReportOf};
 ghost use Rattle.vx_run.specs.Meets.{VxMeets};
 
-use std::alloc::Global;
-use std::thread::Threads;
-
-use vx_base::Text;
-use vx_world::{Files, Gate, Out, OutFault};
-
 use crate::answer::answer;
 use crate::deliver::deliver;
 use crate::lines::{cause_line, cause_status};
 use crate::report::{Cause, Report};
 use crate::stages::Stop;
+use std::alloc::Global;
+use std::thread::Threads;
+use vx_base::Text;
+use vx_world::{Files, Gate, Out, OutFault};
 
 fn report(cause: Cause) -> Report
     ensures { IsReportOf cause result }

@@ -12,14 +12,12 @@ ghost use Rattle.std.specs.List.{flat_map};
 ghost use Rattle.vx_run.specs.FirstValues.{IsLaunchable};
 ghost use Rattle.vx_run.specs.Output.{output_text};
 
-use std::alloc::Global;
-
-use vx_base::{Memory, Text};
-
 use crate::first::run::run_kernel;
 use crate::first::tree::Kernel;
 use crate::layout::{lay_out, print_buffers};
 use crate::words::RunWords;
+use std::alloc::Global;
+use vx_base::{Memory, Text};
 
 // Runs a kernel over the memory, and gives the text of the buffers that are to be printed.
 fn run_and_print(

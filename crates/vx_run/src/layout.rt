@@ -5,13 +5,11 @@ ghost use Rattle.std.specs.List.{flat_map};
 ghost use Rattle.vx_run.specs.FirstMemory.{stride};
 ghost use Rattle.vx_run.specs.Layout.{fields_from, padded, shown_text};
 
-use std::alloc::Global;
-
-use vx_base::{Memory, Size, Text, get_le};
-
 use crate::first::code::stride;
 use crate::output::push_buffer;
 use crate::words::BufWord;
+use std::alloc::Global;
+use vx_base::{Memory, Size, Text, get_le};
 
 // Appends a buffer, and zeros behind it.
 fn push_padded(memory: &mut Vec<u8>, bytes: &[u8], gap: usize) -> Result<(), Memory>

@@ -1,13 +1,11 @@
 ghost use Rattle.std.specs.Prelude.{◌≡◌, IfOk, IsOk, string_bytes};
 ghost use Rattle.vx_run.specs.Lines.{line_of, status_of};
 
-use std::alloc::{AllocError, Global};
-use std::fmt;
-
-use vx_base::{Memory, Pos, Text};
-
 use crate::report::{BufferKind, Cause, LaunchKind, SourceKind};
 use crate::words::UsageKind;
+use std::alloc::{AllocError, Global};
+use std::fmt;
+use vx_base::{Memory, Pos, Text};
 
 impl fmt::Display for UsageKind {
     ghost use Rattle.std.specs.Prelude.{Some};
@@ -76,13 +74,19 @@ impl fmt::Display for Cause {
             Cause::Source { pos, kind } => write!(f, "source {pos} {kind}"),
             Cause::Launch { index, kind } => write!(f, "launch {index} {kind}"),
             Cause::Buffer { index, kind } => write!(f, "buffer {index} {kind}"),
-            Cause::Trap { launch, pos, item } => write!(f, "trap launch {launch} {pos} item {item}"),
+            Cause::Trap { launch, pos, item } => write!(
+                f,
+                "trap launch {launch} {pos} item {item}"
+            ),
             Cause::Stuck {
                 launch,
                 core,
                 waiting,
                 ended,
-            } => write!(f, "stuck launch {launch} core {core} waiting {waiting} ended {ended}"),
+            } => write!(
+                f,
+                "stuck launch {launch} core {core} waiting {waiting} ended {ended}"
+            ),
             Cause::Turns {
                 launch,
                 core,

@@ -7,15 +7,13 @@ ghost use Rattle.vx_run.specs.Stages.{StageFaults, StageMisses, StopsAt};
 ghost use Rattle.vx_run.specs.Words.{IsOrigin};
 ghost use Rattle.vx_run.specs.declared.words.BufWord.{BufWord};
 
-use std::alloc::Global;
-
-use vx_base::{Memory, Text};
-use vx_world::Files;
-
 use crate::reading::read_file;
 use crate::report::{BufferKind, Cause};
 use crate::stages::Stop;
 use crate::words::{BufFrom, BufWord, RunWords};
+use std::alloc::Global;
+use vx_base::{Memory, Text};
+use vx_world::Files;
 
 fn wrong_length(index: u32, bytes: u32) -> Stop
     ensures { result ≡ Stop.Refused (Cause.Buffer index (BufferKind.Length bytes 4)) }

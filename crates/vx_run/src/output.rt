@@ -2,7 +2,6 @@ ghost use Rattle.std.specs.Prelude.{◌≡◌, ◌++◌, ◌^◌, ◌<◌, lengt
 ghost use Rattle.vx_run.specs.Output.{buffer_text, elements_text, head_text, int_text, rest_text, row_text};
 
 use std::alloc::Global;
-
 use vx_base::{Memory, Text};
 
 // How many elements a line has.

@@ -3,13 +3,11 @@
 ghost use Rattle.std.specs.Prelude.{◌≡◌, ◌≤◌, length, IfOk, IfErr};
 ghost use Rattle.vx_run.specs.Stages.{IsMissingOf, ReadsFront, StageFaults, StageMisses, StopsReading};
 
-use std::alloc::Global;
-
-use vx_base::{Memory, Text};
-use vx_world::{Files, ReadFault};
-
 use crate::report::Cause;
 use crate::stages::Stop;
+use std::alloc::Global;
+use vx_base::{Memory, Text};
+use vx_world::{Files, ReadFault};
 
 // A copy of a name, for the refusal of a file that is not there.
 fn copy_text(alloc: Global, text: &Text) -> Result<Text, Memory>

@@ -1,6 +1,5 @@
-use vx_base::{Pos, Text};
-
 use crate::words::UsageKind;
+use vx_base::{Pos, Text};
 
 /// Why a kernel's file is refused.
 #[derive(Clone, Copy, Debug, PartialEq, Eq)]

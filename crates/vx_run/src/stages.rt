@@ -1,9 +1,8 @@
 //! The stages of a call, in the order of its answers: the words, the kernel's file, its text, the entry, the buffers, the
 //! arguments and the run. Each says by its contract which outcomes it leads to.
 
-use std::alloc::AllocFailed;
-
 use crate::report::Cause;
+use std::alloc::AllocFailed;
 
 /// Why a call prints nothing.
 #[derive(Debug, Drop)]

@@ -1,12 +1,53 @@
 use super::*;
+use std::process::Abort;
 use std::test::Fail;
 use vx_world::{CallList, Entry, EntryList, MemFiles, MemOut, NoGate};
 
-const TRIPLES: &str = "__kernel void k(__global int *a) { a[get_global_id(0)] = get_global_id(0) * 3 + 1; }";
-const DOUBLES: &str = "__kernel void k(__global int *a, __global int *b) { b[get_global_id(0)] = a[get_global_id(0)] * 2 - get_global_id(0); }";
-const SUMS: &str = "__kernel void vadd(__global const int *a, __global const int *b, __global int *c) { int i = get_global_id(0); c[i] = a[i] + b[i]; }";
+const TRIPLES: &str =
+    "__kernel void k(__global int *a) { a[get_global_id(0)] = get_global_id(0) * 3 + 1; }";
+
+const DOUBLES: &str =
+    "__kernel void k(__global int *a, __global int *b) { b[get_global_id(0)] = a[get_global_id(0)] * 2 - get_global_id(0); }";
+
+const SUMS: &str =
+    "__kernel void vadd(__global const int *a, __global const int *b, __global int *c) { int i = get_global_id(0); c[i] = a[i] + b[i]; }";
+
 const FIVE_SIX_SEVEN: [u8; 12] = [5, 0, 0, 0, 6, 0, 0, 0, 7, 0, 0, 0];
+
 const TRIPLE_WORDS: [&str; 5] = ["run", "v.cl", "buf=a:int:zero:4", "do=k/4/4/a", "show=a"];
+
+const DOUBLE_WORDS: [&str; 6] = [
+    "run",
+    "v.cl",
+    "buf=a:int:in:a.bin",
+    "buf=b:int:zero:3",
+    "do=k/3/3/a,b",
+    "show=b",
+];
+
+const SUM_WORDS: [&str; 7] = [
+    "run",
+    "v.cl",
+    "buf=a:int:in:a.bin",
+    "buf=b:int:in:a.bin",
+    "buf=c:int:zero:3",
+    "do=vadd/3/3/a,b,c",
+    "show=c",
+];
+
+const MANY_WORDS: [&str; 5] = ["run", "v.cl", "buf=a:int:zero:4", "do=k/33/33/a", "show=a"];
+
+const NO_FILE_WORDS: [&str; 4] = ["run", "w.cl", "buf=a:int:zero:4", "do=k/4/4/a"];
+
+const OTHER_ENTRY_WORDS: [&str; 4] = ["run", "v.cl", "buf=a:int:zero:4", "do=w/4/4/a"];
+
+const LONG_WORDS: [&str; 5] = ["run", "v.cl", "buf=a:int:zero:5", "do=k/4/4/a", "show=a"];
+
+const SHORT_WORDS: [&str; 4] = ["run", "v.cl", "buf=a:int:in:a.bin", "do=k/2/2/a"];
+
+const NO_BUFFER_WORDS: [&str; 4] = ["run", "v.cl", "buf=a:int:in:b.bin", "do=k/3/3/a"];
+
+const NO_ARGUMENT_WORDS: [&str; 5] = ["run", "v.cl", "buf=a:int:zero:4", "do=k/4/4", "show=a"];
 
 // What a call answers over files in memory, where the reads and writes with these numbers fail.
 #[derive(Drop)]
@@ -61,30 +102,73 @@ fn answer_to<R: Threads + Sync>(
     })
 }
 
-#[test]
-fn answers_rows(rt: HostRuntime) -> Result<(), Fail> {
-    let double_words = ["run", "v.cl", "buf=a:int:in:a.bin", "buf=b:int:zero:3", "do=k/3/3/a,b", "show=b"];
-    let sum_words = ["run", "v.cl", "buf=a:int:in:a.bin", "buf=b:int:in:a.bin", "buf=c:int:zero:3", "do=vadd/3/3/a,b,c", "show=c"];
-    let rows: [(&[&str], &str, u8, &str); 12] = [
-        (&TRIPLE_WORDS, TRIPLES, 0, "a int 4\n1 4 7 10\n"),
-        (&double_words, DOUBLES, 0, "b int 3\n10 11 12\n"),
-        (&["run", "v.cl", "buf=a:int:zero:5", "do=k/4/4/a", "show=a"], TRIPLES, 3, "buffer 0 Length 20 4\n"),
-        (&sum_words, SUMS, 2, "source 1:1 Subset\n"),
-        (&["run", "v.cl", "buf=a:int:zero:4", "do=k/4/4", "show=a"], TRIPLES, 3, "launch 0 Arguments 0 1\n"),
-        (&["run", "v.cl", "buf=a:int:zero:4", "do=k/33/33/a", "show=a"], TRIPLES, 1, "usage word 0 Form\n"),
-        (&["fly"], TRIPLES, 1, "usage word 0 Command\n"),
-        (&[], TRIPLES, 1, "usage word 0 Command\n"),
-        (&["run", "v.cl", "buf=a:int:zero:4", "do=w/4/4/a"], TRIPLES, 3, "launch 0 NoEntry\n"),
-        (&["run", "w.cl", "buf=a:int:zero:4", "do=k/4/4/a"], TRIPLES, 10, "missing w.cl\n"),
-        (&["run", "v.cl", "buf=a:int:in:b.bin", "do=k/3/3/a"], TRIPLES, 10, "missing b.bin\n"),
-        (&["run", "v.cl", "buf=a:int:in:a.bin", "do=k/2/2/a"], TRIPLES, 3, "buffer 0 Length 9 4\n"),
-    ];
-    for (words, source, status, text) in rows {
-        let answer = answer_to(&rt, rt.alloc(), words, source, &[], &[], 4096)?;
-        assert_eq!(rt; answer.status, status, "{text}");
-        assert_eq!(rt; answer.text.as_slice(), text.as_bytes(), "{text}");
-    }
+fn expect_answer<R: Threads + Sync + Abort>(
+    rt: &R,
+    alloc: Global,
+    words: &[&str],
+    source: &str,
+    status: u8,
+    text: &str,
+) -> Result<(), Fail> {
+    let answer = answer_to(rt, alloc, words, source, &[], &[], 4096)?;
+    assert_eq!(rt; answer.status, status, "{text}");
+    assert_eq!(rt; answer.text.as_slice(), text.as_bytes(), "{text}");
     Ok(())
+}
+
+#[test]
+fn prints_buffers(rt: HostRuntime) -> Result<(), Fail> {
+    let alloc = rt.alloc();
+    expect_answer(&rt, alloc, &TRIPLE_WORDS, TRIPLES, 0, "a int 4\n1 4 7 10\n")?;
+    expect_answer(&rt, alloc, &DOUBLE_WORDS, DOUBLES, 0, "b int 3\n10 11 12\n")
+}
+
+#[test]
+fn refuses_words_and_texts(rt: HostRuntime) -> Result<(), Fail> {
+    let alloc = rt.alloc();
+    expect_answer(&rt, alloc, &[], TRIPLES, 1, "usage word 0 Command\n")?;
+    expect_answer(&rt, alloc, &["fly"], TRIPLES, 1, "usage word 0 Command\n")?;
+    expect_answer(&rt, alloc, &MANY_WORDS, TRIPLES, 1, "usage word 0 Form\n")?;
+    expect_answer(&rt, alloc, &SUM_WORDS, SUMS, 2, "source 1:1 Subset\n")?;
+    expect_answer(&rt, alloc, &NO_FILE_WORDS, TRIPLES, 10, "missing w.cl\n")
+}
+
+#[test]
+fn refuses_launches_and_buffers(rt: HostRuntime) -> Result<(), Fail> {
+    let alloc = rt.alloc();
+    expect_answer(
+        &rt,
+        alloc,
+        &OTHER_ENTRY_WORDS,
+        TRIPLES,
+        3,
+        "launch 0 NoEntry\n",
+    )?;
+    expect_answer(
+        &rt,
+        alloc,
+        &LONG_WORDS,
+        TRIPLES,
+        3,
+        "buffer 0 Length 20 4\n",
+    )?;
+    expect_answer(
+        &rt,
+        alloc,
+        &SHORT_WORDS,
+        TRIPLES,
+        3,
+        "buffer 0 Length 9 4\n",
+    )?;
+    expect_answer(&rt, alloc, &NO_BUFFER_WORDS, TRIPLES, 10, "missing b.bin\n")?;
+    expect_answer(
+        &rt,
+        alloc,
+        &NO_ARGUMENT_WORDS,
+        TRIPLES,
+        3,
+        "launch 0 Arguments 0 1\n",
+    )
 }
 
 #[test]
@@ -99,7 +183,11 @@ fn faults_leave_a_front(rt: HostRuntime) -> Result<(), Fail> {
     for call in 0..17 {
         let answer = answer_to(&rt, rt.alloc(), &TRIPLE_WORDS, TRIPLES, &[], &[call], 1)?;
         assert_eq!(rt; answer.status, 8, "call {call}");
-        assert_eq!(rt; answer.text.as_slice(), &whole[..answer.text.len().min(whole.len())], "call {call}");
+        assert_eq!(rt;
+            answer.text.as_slice(),
+            &whole[..answer.text.len().min(whole.len())],
+            "call {call}"
+        );
         assert_eq!(rt; answer.text.len() as u64, call, "call {call}");
     }
     Ok(())

@@ -10,13 +10,13 @@ returns-in-Ok g c = meets_printed _ _ _ _ _ c.in-Ok.text c.in-Ok.ensures.comes c
 
 pub returns-in-Ok-cause_line : goal.returns-in-Ok-cause_line
 returns-in-Ok-cause_line g c =
-  let held = g.F.Files.held in
-  let faults = g.F.Files.faults in
-  let misses = g.F.Files.misses in
-  let cause = c.in-Err-Refused.cause in
-  let comes = subst (StopsAt (FromWords (held c.args.files.now) (map string_bytes c.args.words.now))) c.in-Err-Refused.field-0-is c.in-Err-Refused.ensures.comes in
-  let fault = subst (λ s. StopFaults s (faults c.args.files.now) (faults c.answer.new.files)) c.in-Err-Refused.field-0-is c.in-Err-Refused.ensures.faults in
-  let miss = subst (λ s. StopMisses s (misses c.args.files.now) (misses c.answer.new.files)) c.in-Err-Refused.field-0-is c.in-Err-Refused.ensures.misses in
-  meets_refused _ _ _ _ _ cause comes fault miss
+    let held = g.F.Files.held in
+    let faults = g.F.Files.faults in
+    let misses = g.F.Files.misses in
+    let cause = c.in-Err-Refused.cause in
+    let comes = subst (StopsAt (FromWords (held c.args.files.now) (map string_bytes c.args.words.now))) c.in-Err-Refused.field-0-is c.in-Err-Refused.ensures.comes in
+    let fault = subst (λ s. StopFaults s (faults c.args.files.now) (faults c.answer.new.files)) c.in-Err-Refused.field-0-is c.in-Err-Refused.ensures.faults in
+    let miss = subst (λ s. StopMisses s (misses c.args.files.now) (misses c.answer.new.files)) c.in-Err-Refused.field-0-is c.in-Err-Refused.ensures.misses in
+    meets_refused _ _ _ _ _ cause comes fault miss
     (subst (λ t. Delivers cause t (g.O.Out.written c.args.out.now) (g.O.Out.written c.deliver_answer-in-Ok-cause_line.new.out) (g.O.Out.faults c.args.out.now)
-      (g.O.Out.faults c.deliver_answer-in-Ok-cause_line.new.out) c.deliver_answer-in-Ok-cause_line.result) c.in-Ok-cause_line.ensures c.deliver_answer-in-Ok-cause_line.ensures)
+    (g.O.Out.faults c.deliver_answer-in-Ok-cause_line.new.out) c.deliver_answer-in-Ok-cause_line.result) c.in-Ok-cause_line.ensures c.deliver_answer-in-Ok-cause_line.ensures)

@@ -4,8 +4,9 @@ use Rattle.vx_run.proofs.deliver.deliver.Goals as goal
 
 pub loop-at-preserved : goal.loop-at-preserved
 loop-at-preserved g c =
-  let within = c.in-Ok.ensures.within in
-  let more : c.loop-at.at + c.in-Ok.count ≤ length c.args.text.now = omega (arith, length-take (length c.args.text.now - c.loop-at.at) (drop c.loop-at.at c.args.text.now), length-drop c.loop-at.at c.args.text.now) in (
-  more,
-  Appends-more _ _ _ c.args.text.now c.loop-at.at c.in-Ok.count more c.loop-at.invariant.1 c.in-Ok.ensures.appends,
-  c.in-Ok.ensures.faults ∙ c.loop-at.invariant.2)
+    let within = c.in-Ok.ensures.within in
+    let more : c.loop-at.at + c.in-Ok.count ≤ length c.args.text.now = omega (arith, length-take (length c.args.text.now - c.loop-at.at) (drop c.loop-at.at c.args.text.now), length-drop c.loop-at.at c.args.text.now) in (
+      more,
+      Appends-more _ _ _ c.args.text.now c.loop-at.at c.in-Ok.count more c.loop-at.invariant.1 c.in-Ok.ensures.appends,
+      c.in-Ok.ensures.faults ∙ c.loop-at.invariant.2,
+    )

@@ -5,5 +5,5 @@ use Rattle.vx_run.proofs.layout.words_at.Goals as goal
 
 pub loop-k-preserved : goal.loop-k-preserved
 loop-k-preserved c =
-  c.in_ok-push.ensures.items ∙ ap (λ ws. ws ++ c.get_le.result ∷ []) c.loop-k.invariant
+    c.in_ok-push.ensures.items ∙ ap (λ ws. ws ++ c.get_le.result ∷ []) c.loop-k.invariant
     ∙ ap (λ w. fields_from c.args.memory.now c.args.start c.loop-k.k ++ w ∷ []) c.get_le.ensures ∙ sym (fields_from-more c.args.memory.now c.args.start c.loop-k.k)
