@@ -1,0 +1,67 @@
+#!/usr/bin/env python3
+"""Runs the built program on stated inputs, and prints wall time and peak memory as a table.
+
+  bench/run.py        after ./vx has built the program once
+"""
+import os
+import struct
+import subprocess
+import sys
+import tempfile
+import time
+
+TOP = os.path.dirname(os.path.dirname(os.path.abspath(__file__)))
+PROGRAM = os.path.join(TOP, "crates", "vx", "out", "vx")
+LIMIT = 1_048_576
+
+
+def affine(folder):
+    """The first example: eight work-items, one assignment."""
+    example = os.path.join(TOP, "examples", "affine")
+    return ["run", os.path.join(example, "affine.cl"), "buf=x:int:in:" + os.path.join(example, "x.bin"),
+            "buf=y:int:zero:8", "do=affine/8/8/x,y", "show=y"]
+
+
+def largest(folder):
+    """The largest launch of today's form: 32 work-items, 16 buffers, and a mebibyte of assignments."""
+    names = ["p%d" % n for n in range(16)]
+    head = "__kernel void k(" + ", ".join("__global int *" + n for n in names) + ") {"
+    text, n = [head], 0
+    size = len(head) + 1
+    while True:
+        a, b = names[n % 16], names[(n + 1) % 16]
+        line = "%s[get_global_id(0)] = %s[get_global_id(0)] * 3 + get_global_id(0);" % (a, b)
+        if size + len(line) > LIMIT:
+            break
+        text.append(line)
+        size += len(line)
+        n += 1
+    with open(os.path.join(folder, "k.cl"), "w") as file:
+        file.write("".join(text) + "}")
+    with open(os.path.join(folder, "d.bin"), "wb") as file:
+        file.write(b"".join(struct.pack("<i", v) for v in range(32)))
+    return (["run", "k.cl"] + ["buf=%s:int:in:d.bin" % n for n in names]
+            + ["do=k/32/32/" + ",".join(names)] + ["show=" + n for n in names])
+
+
+def measure(make):
+    with tempfile.TemporaryDirectory() as folder:
+        words = make(folder)
+        begun = time.monotonic()
+        child = subprocess.Popen([PROGRAM] + words, cwd=folder, stdout=subprocess.DEVNULL)
+        _, status, usage = os.wait4(child.pid, 0)
+        return os.waitstatus_to_exitcode(status), time.monotonic() - begun, usage.ru_maxrss / 1024
+
+
+def main():
+    if not os.access(PROGRAM, os.X_OK):
+        sys.exit("bench: the program is not built: run ./vx once")
+    print("%-12s %8s %10s %12s" % ("input", "status", "seconds", "peak MiB"))
+    for make in (affine, largest):
+        status, seconds, peak = measure(make)
+        print("%-12s %8d %10.3f %12.1f" % (make.__name__, status, seconds, peak))
+    return 0
+
+
+if __name__ == "__main__":
+    sys.exit(main())
