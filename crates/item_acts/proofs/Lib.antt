@@ -1,3 +1,6 @@
 pub mod Machine
 pub mod Launches
 pub mod Examples
+pub mod Swaps
+pub mod Fronts
+pub mod Schedules

@@ -2,3 +2,4 @@ pub mod Machine
 pub mod Launches
 pub mod Tame
 pub mod Examples
+pub mod OneResult
