@@ -4,3 +4,4 @@ pub mod Examples
 pub mod Swaps
 pub mod Fronts
 pub mod Schedules
+pub mod RaceTests

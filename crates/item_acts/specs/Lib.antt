@@ -3,3 +3,4 @@ pub mod Launches
 pub mod Tame
 pub mod Examples
 pub mod OneResult
+pub mod Worlds

@@ -8,6 +8,7 @@
 pub mod acts;
 pub mod code;
 pub mod laws;
+pub mod races;
 pub mod tame_laws;
 
 pub use acts::{Action, Asked, Bound, BoundList, Place, Point, Range, TurnList};
