@@ -5,3 +5,4 @@ pub mod Swaps
 pub mod Fronts
 pub mod Schedules
 pub mod RaceTests
+pub mod HeldLaws

@@ -13,7 +13,8 @@ use Rattle.item_acts.specs.declared.acts.Place.TheVariants.{Global, Local}
 use Rattle.item_acts.specs.declared.races.LogEntry.{LogEntry}
 use Rattle.item_acts.specs.Launches.{covers}
 use Rattle.item_acts.specs.Tame.{Access, IsRace, HasRace}
-use Rattle.item_acts.specs.Worlds.{access_from, ShareByte, RacesAt, NoRaceFrom, IsNextRace, IsLeastRace}
+use Rattle.item_acts.specs.Worlds.{access_from}
+use Rattle.item_acts.specs.LeastRace.{ShareByte, RacesAt, NoRaceFrom, IsNextRace, IsLeastRace}
 
 -- a field has at least one byte
 pub bytes_of-pos : (size : Size) → 0 < bytes_of size

@@ -4,3 +4,4 @@ pub mod Tame
 pub mod Examples
 pub mod OneResult
 pub mod Worlds
+pub mod LeastRace

@@ -1,41 +1,131 @@
 -- What the lists that a world holds stand for: a launch, the state that it has come to, and the log of its accesses.
-use Rattle.std.specs.Prelude.{◌≡◌, ℕ, suc, ◌<◌, ◌≤◌, IsTrue, ◌⊎◌, List, length, Some, slice_get}
-use Rattle.vx_base.specs.Bytes.{bytes_of}
+use Rattle.std.specs.Prelude.{◌≡◌, ℕ, suc, ◌+◌, ◌*◌, ◌/◌, ◌%◌, ◌<◌, ◌≤◌, IsTrue, Bool, ◌⊎◌, List, [], ◌∷◌, ◌++◌, length, map, Some, slice_get, slice_index, slice_index_or, slice_set}
+use Rattle.vx_base.specs.Bytes.{bytes_of, with_field}
+use Rattle.vx_base.specs.declared.types.Pos.{Pos}
+use Rattle.vx_base.specs.declared.types.Size.{Size}
 use Rattle.item_acts.specs.declared.acts.Place.{Place}
+use Rattle.item_acts.specs.declared.acts.Place.TheVariants.{Global, Local}
+use Rattle.item_acts.specs.declared.acts.Point.{Point}
+use Rattle.item_acts.specs.declared.acts.Action.{Action}
+use Rattle.item_acts.specs.declared.acts.Action.TheVariants.{Barrier}
+use Rattle.item_acts.specs.declared.acts.Asked.{Asked}
+use Rattle.item_acts.specs.declared.acts.Asked.TheVariants.{Running}
+use Rattle.item_acts.specs.declared.faults.TurnFault.{TurnFault}
+use Rattle.item_acts.specs.declared.faults.TurnFault.TheVariants.{NotReady, Memory}
+use Rattle.item_acts.specs.declared.faults.Why.TheVariants.{Ended as StandsEnded, Faulted as StandsFaulted, Waits as IsWaiting, Running as RunsOn, Nowhere}
 use Rattle.item_acts.specs.declared.races.LogEntry.{LogEntry}
-use Rattle.item_acts.specs.Launches.{covers}
-use Rattle.item_acts.specs.Tame.{Access, IsRace}
+use Rattle.item_acts.specs.declared.held.Held.{Held}
+use Rattle.item_acts.specs.declared.held.Progress.{Progress}
+use Rattle.item_acts.specs.declared.held.Progress.TheVariants.{Going as GoesOn, Ended as HasEnded, Faulted as HasFaulted}
+use Rattle.item_acts.specs.Launches.{Launch, State, Standing, Going, Ended, Faulted, Does, after, IsTurn}
+use Rattle.item_acts.specs.Tame.{Access, accesses_of}
+use Rattle.item_acts.specs.OneResult.{IsWithin}
 
 -- an entry of the log as an access
 abbrev pub access_from : LogEntry → Access
 access_from entry = record { item = entry.item; group = entry.group; epoch = entry.epoch; place = entry.place; bytes = bytes_of entry.size; writes = entry.writes }
 
--- some byte is in both fields
-pub record ShareByte (place : Place) (n : ℕ) (other : Place) (m : ℕ) : Type 0 where
-  pub byte : Place
-  pub first : IsTrue (covers place n byte)
-  pub second : IsTrue (covers other m byte)
+-- how an item stands
+abbrev pub standing_of : Progress → Standing
+standing_of GoesOn = Going
+standing_of HasEnded = Ended
+standing_of (HasFaulted pos) = Faulted pos
 
--- the accesses at two places of a log race
-pub record RacesAt (log : List Access) (one other : ℕ) : Type 0 where
-  pub first : Access
-  pub second : Access
-  pub first_is : slice_get log one ≡ Some first
-  pub second_is : slice_get log other ≡ Some second
-  pub race : IsRace first second
+-- the bytes of an array
+abbrev pub array_in : List (List ℕ) → ℕ → List ℕ
+array_in arrays k = slice_index_or arrays k []
 
--- no access behind a place races with the one there
-abbrev pub NoRaceFrom : List Access → ℕ → Type 0
-NoRaceFrom log one = (other : ℕ) → one < other → RacesAt log one other → ⊥
+-- the local arrays of a group
+abbrev pub group_in : List (List (List ℕ)) → ℕ → List (List ℕ)
+group_in groups k = slice_index_or groups k []
 
--- the first access behind a place that races with the one there
-pub record IsNextRace (log : List Access) (one other : ℕ) : Type 0 where
-  pub behind : one < other
-  pub race : RacesAt log one other
-  pub least : (later : ℕ) → one < later → RacesAt log one later → other ≤ later
+-- each byte of the buffers and of the local arrays
+abbrev pub bytes_held : Held → Place → ℕ
+bytes_held h (Global buffer byte) = slice_index (array_in h.buffers buffer) byte
+bytes_held h (Local group array byte) = slice_index (array_in (group_in h.arrays group) array) byte
 
--- the least of the pairs of places that race: by the earlier place, and then by the later
-pub record IsLeastRace (log : List Access) (one other : ℕ) : Type 0 where
-  pub earlier : one < other
-  pub race : RacesAt log one other
-  pub least : (one' other' : ℕ) → one' < other' → RacesAt log one' other' → (one < one') ⊎ ((one ≡ one') × (other ≤ other'))
+-- the state that the lists stand for
+abbrev pub state_of : Held → State
+state_of h = record {
+  bytes = bytes_held h;
+  answers = λ item. slice_index_or h.answers item [];
+  standing = λ item. standing_of (slice_index_or h.progress item GoesOn);
+  epochs = λ group. slice_index h.epochs group;
+}
+
+-- the log that they stand for
+abbrev pub accesses_held : Held → List Access
+accesses_held h = map access_from h.log
+
+-- the launch whose items ask for this, over the arrays that are held
+abbrev pub launch_of : (ℕ → List ℕ → ℕ → Asked) → Held → Launch
+launch_of asks h = record { items = h.items; local = h.local; asks = asks; buffers = map length h.buffers; locals = h.sizes }
+
+-- The lists fit: groups are whole, each item and each group has its place in them, each group has each local array, and no
+-- group has passed more barriers than its items have answers.
+pub record IsHeld (h : Held) : Type 0 where
+  pub positive : 0 < h.local
+  pub whole : h.items % h.local ≡ 0
+  pub answers : length h.answers ≡ h.items
+  pub progress : length h.progress ≡ h.items
+  pub epochs : length h.epochs ≡ h.items / h.local
+  pub groups : length h.arrays ≡ h.items / h.local
+  pub arrays : (group : ℕ) → group < h.items / h.local → map length (group_in h.arrays group) ≡ h.sizes
+  pub passed : (item : ℕ) → item < h.items → slice_index h.epochs (item / h.local) ≤ length (slice_index_or h.answers item [])
+
+-- the entry for an access of an item
+abbrev pub entry_of : Held → ℕ → Place → Size → Bool → LogEntry
+entry_of h item place size writes = record {
+  item = item;
+  group = item / h.local;
+  epoch = slice_index h.epochs (item / h.local);
+  place = place;
+  size = size;
+  writes = writes;
+}
+
+-- the lists with one more entry in the log
+abbrev pub logged : Held → LogEntry → Held
+logged h entry = record h { log = h.log ++ entry ∷ [] }
+
+-- the lists with one more answer of an item
+abbrev pub answered : Held → ℕ → ℕ → Held
+answered h item answer = record h { answers = slice_set h.answers item (slice_index_or h.answers item [] ++ answer ∷ []) }
+
+-- the lists with an item that stands so
+abbrev pub stood : Held → ℕ → Progress → Held
+stood h item progress = record h { progress = slice_set h.progress item progress }
+
+-- some buffers with a number in a field
+abbrev pub buffers_with : List (List ℕ) → Place → ℕ → ℕ → List (List ℕ)
+buffers_with buffers (Global buffer byte) n value = slice_set buffers buffer (with_field (array_in buffers buffer) byte n value)
+buffers_with buffers (Local group array byte) n value = buffers
+
+-- the local arrays of some groups with a number in a field
+abbrev pub groups_with : List (List (List ℕ)) → Place → ℕ → ℕ → List (List (List ℕ))
+groups_with groups (Global buffer byte) n value = groups
+groups_with groups (Local group array byte) n value =
+    slice_set groups group (slice_set (group_in groups group) array (with_field (array_in (group_in groups group) array) byte n value))
+
+-- the lists with a number in a field
+abbrev pub stored : Held → Place → ℕ → ℕ → Held
+stored h place n value = record h { buffers = buffers_with h.buffers place n value; arrays = groups_with h.arrays place n value }
+
+-- the launch over the arrays that are held, whatever its items ask for
+abbrev pub shape_of : Held → Launch
+shape_of h = launch_of (λ item answers n. Running) h
+
+-- an item's action led from some lists to others
+pub record ActsAs (l : Launch) (h h' : Held) (item : ℕ) (a : Action) : Type 0 where
+  pub turn : IsTurn l a
+  pub state : state_of h' ≡ after l (state_of h) (Does item a)
+  pub log : accesses_held h' ≡ accesses_held h ++ accesses_of l (state_of h) (Does item a)
+
+-- why an action is no turn: it is a barrier, or touches a byte that the launch does not have
+abbrev pub IsNoTurn : Launch → Action → TurnFault → Type 0
+IsNoTurn l a (NotReady StandsEnded) = ⊥
+IsNoTurn l a (NotReady StandsFaulted) = ⊥
+IsNoTurn l a (NotReady IsWaiting) = (point : Point) × (a ≡ Barrier point)
+IsNoTurn l a (NotReady RunsOn) = ⊥
+IsNoTurn l a (NotReady Nowhere) = IsWithin l a → ⊥
+IsNoTurn l a Memory = Unit {0}

@@ -6,7 +6,10 @@
 #![tactic(auto)]
 
 pub mod acts;
+pub mod arrays;
 pub mod code;
+pub mod faults;
+pub mod held;
 pub mod laws;
 pub mod races;
 pub mod tame_laws;

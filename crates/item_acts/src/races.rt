@@ -2,7 +2,8 @@ ghost use Rattle.std.specs.Prelude.{◌≡◌, ℕ, ◌+◌, ◌<◌, ◌≤◌,
 ghost use Rattle.vx_base.specs.Bytes.{bytes_of};
 ghost use Rattle.item_acts.specs.Launches.{covers};
 ghost use Rattle.item_acts.specs.Tame.{IsRace, HasRace};
-ghost use Rattle.item_acts.specs.Worlds.{access_from, ShareByte, NoRaceFrom, IsNextRace, IsLeastRace};
+ghost use Rattle.item_acts.specs.Worlds.{access_from};
+ghost use Rattle.item_acts.specs.LeastRace.{ShareByte, NoRaceFrom, IsNextRace, IsLeastRace};
 
 use crate::acts::Place;
 use vx_base::{ListOf, Size};

@@ -1,6 +1,7 @@
 use Rattle.std.proofs.Common.{◌<◌, length, map, arith, subst, inl, inr}
 use Rattle.std.proofs.lemmas.Bool.{cases_eq}
-use Rattle.item_acts.specs.Worlds.{access_from, RacesAt}
+use Rattle.item_acts.specs.Worlds.{access_from}
+use Rattle.item_acts.specs.LeastRace.{RacesAt}
 use Rattle.item_acts.proofs.RaceTests.{no_race_at, race_within, next_race_at}
 use Rattle.item_acts.proofs.races.next_race.Goals as goal
 
