@@ -70,8 +70,49 @@ local_nowhere h held group array byte n behind inside =
     let past = group_behind h.items h.local group held.positive held.whole (omega arith) in
     omega (arith, inside.0)
 
+-- the same, whether the group is there or not
+pub local_number_any : (h : Held) → IsHeld h → (group array byte : ℕ) (size : Size) (r : Option ℕ)
+    → MatchOption r (length (array_in (group_in h.arrays group) array) < byte + bytes_of size)
+    (λ v. (byte + bytes_of size ≤ length (array_in (group_in h.arrays group) array)) × (v ≡ field_of (array_in (group_in h.arrays group) array) byte (bytes_of size)))
+    → MatchOption r (IsInside (shape_of h) (Local group array byte) (bytes_of size) → ⊥)
+    (λ v. IsInside (shape_of h) (Local group array byte) (bytes_of size) × (v ≡ field_at (bytes_held h) (Local group array byte) (bytes_of size)))
+local_number_any h held group array byte size r m =
+    elim (cases_lt group (length h.arrays)) [
+      | inl below ↦ local_number h held group array byte (bytes_of size) r below m
+      | inr behind ↦ nowhere r m behind
+    ]
+  where
+    nowhere : (r : Option ℕ)
+        → MatchOption r (length (array_in (group_in h.arrays group) array) < byte + bytes_of size)
+        (λ v. (byte + bytes_of size ≤ length (array_in (group_in h.arrays group) array)) × (v ≡ field_of (array_in (group_in h.arrays group) array) byte (bytes_of size)))
+        → length h.arrays ≤ group
+        → MatchOption r (IsInside (shape_of h) (Local group array byte) (bytes_of size) → ⊥)
+        (λ v. IsInside (shape_of h) (Local group array byte) (bytes_of size) × (v ≡ field_at (bytes_held h) (Local group array byte) (bytes_of size)))
+    nowhere None less behind = local_nowhere h held group array byte (bytes_of size) behind
+    nowhere (Some v) (fits, e) behind =
+        let nothing = ap (λ (arrays : List (List ℕ)). length (array_in arrays array)) (get_or_past h.arrays group [] behind) in
+        let some = bytes_of-pos size in
+        absurd (omega arith)
+
+-- a field of a local array that the launch has lies in an array of a group that is there
+pub local_fits : (h : Held) → IsHeld h → (group array byte n : ℕ) → IsInside (shape_of h) (Local group array byte) n
+    → (group < length h.arrays) × (byte + n ≤ length (array_in (group_in h.arrays group) array))
+local_fits h held group array byte n inside =
+    elim (cases_lt group (length h.arrays)) [
+      | inl below ↦
+          let groups = held.groups in
+          let size = size_at (group_in h.arrays group) array in
+          let sizes = ap (λ (xs : List ℕ). get_or xs array 0) (held.arrays group (omega arith)) in
+          (below, omega (arith, inside.1))
+      | inr behind ↦ absurd (local_nowhere h held group array byte n behind inside)
+    ]
+
+-- and one of a buffer in a buffer that is there
+pub global_fits : (h : Held) (buffer byte n : ℕ) → IsInside (shape_of h) (Global buffer byte) n → byte + n ≤ length (array_in h.buffers buffer)
+global_fits h buffer byte n inside = let e = size_at h.buffers buffer in omega arith
+
 -- the bytes are those of the arrays
-bytes_same : (h h' : Held) → h'.buffers ≡ h.buffers → h'.arrays ≡ h.arrays → bytes_held h' ≡ bytes_held h
+pub bytes_same : (h h' : Held) → h'.buffers ≡ h.buffers → h'.arrays ≡ h.arrays → bytes_held h' ≡ bytes_held h
 bytes_same h h' e e' =
     fun_ext (elim [
       | Global buffer byte ↦ ap (λ buffers. get_or (array_in buffers buffer) byte 0) e

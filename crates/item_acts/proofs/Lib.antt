@@ -6,3 +6,4 @@ pub mod Fronts
 pub mod Schedules
 pub mod RaceTests
 pub mod HeldLaws
+pub mod HeldActs

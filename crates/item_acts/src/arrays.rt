@@ -26,12 +26,49 @@ pub(crate) fn number_in(arrays: &[Text], array: u32, byte: u32, size: Size) -> O
 }
 
 /// Writes a number into a field of one of the arrays, the least significant byte first.
-pub(crate) fn put_in(arrays: &mut [Text], array: u32, byte: u32, size: Size, value: u32)
+pub(crate) fn put_in(arrays: &mut BytesList, array: u32, byte: u32, size: Size, value: u32)
     requires { byte + bytes_of size ≤ length (slice_index_or arrays.old array []) }
     ensures { arrays.new ≡ slice_set arrays.old array (with_field (slice_index_or arrays.old array []) byte (bytes_of size) value) }
 {
-    let text = &mut arrays[array as usize];
+    let text = &mut arrays.items[array as usize];
     put_le(text.items.as_mut_slice(), byte as usize, size, value);
+}
+
+/// The number in a field of one of a group's arrays, and None where there is no such field.
+pub(crate) fn number_in_group(
+    groups: &[BytesList],
+    group: u32,
+    array: u32,
+    byte: u32,
+    size: Size,
+) -> Option<u32>
+    ensures { MatchOption result (length (slice_index_or (slice_index_or groups.now group []) array []) < byte + bytes_of size)
+        (λ v. (byte + bytes_of size ≤ length (slice_index_or (slice_index_or groups.now group []) array []))
+        × (v ≡ field_of (slice_index_or (slice_index_or groups.now group []) array []) byte (bytes_of size))) }
+{
+    let index = group as usize;
+    if index >= groups.len() {
+        return None;
+    }
+    number_in(groups[index].as_slice(), array, byte, size)
+}
+
+/// Writes a number into a field of one of a group's arrays.
+pub(crate) fn put_in_group(
+    groups: &mut ListOf<BytesList>,
+    group: u32,
+    array: u32,
+    byte: u32,
+    size: Size,
+    value: u32,
+)
+    requires exists { group < length groups.old }
+    requires fits { byte + bytes_of size ≤ length (slice_index_or (slice_index_or groups.old group []) array []) }
+    ensures { groups.new ≡ slice_set groups.old group (slice_set (slice_index_or groups.old group []) array
+        (with_field (slice_index_or (slice_index_or groups.old group []) array []) byte (bytes_of size) value)) }
+{
+    let arrays = &mut groups.items[group as usize];
+    put_in(arrays, array, byte, size, value);
 }
 
 /// Arrays of these many bytes each, all of them 0.

@@ -3,10 +3,9 @@ ghost use Rattle.std.specs.Prelude.{◌≡◌, ℕ, ◌+◌, ◌*◌, ◌/◌, �
 ghost use Rattle.std.specs.Result.{ForErr};
 ghost use Rattle.vx_base.specs.Bytes.{bytes_of};
 ghost use Rattle.item_acts.specs.declared.races.LogEntry.{LogEntry};
-ghost use Rattle.item_acts.specs.Launches.{IsInside, field_at};
 
 use crate::acts::Place;
-use crate::arrays::{BytesList, number_in, put_in, zero_arrays};
+use crate::arrays::{BytesList, number_in, number_in_group, put_in, put_in_group, zero_arrays};
 use crate::races::{EntryLog, LogEntry};
 use std::alloc::Global;
 use vx_base::{ListOf, Memory, Pos, Size, SizeList, WordList};
@@ -46,12 +45,12 @@ pub struct Held {
 }
 
 /// Adds an answer to those of an item, and leaves all as it was where memory runs out.
-fn add_answer(lists: &mut [WordList], item: usize, answer: u32) -> Result<(), Memory>
+fn add_answer(lists: &mut ListOf<WordList>, item: usize, answer: u32) -> Result<(), Memory>
     requires { item < length lists.old }
     ensures ok { IfOk result (λ _. lists.new ≡ slice_set lists.old item (slice_index_or lists.old item [] ++ answer ∷ [])) }
     ensures err { OnErr result (lists.new ≡ lists.old) }
 {
-    let own = &mut lists[item];
+    let own = &mut lists.items[item];
     if own.items.push(answer).is_err() {
         return Err(Memory);
     }
@@ -59,11 +58,11 @@ fn add_answer(lists: &mut [WordList], item: usize, answer: u32) -> Result<(), Me
 }
 
 /// Takes the last answer of an item away.
-fn drop_answer(lists: &mut [WordList], item: usize)
+fn drop_answer(lists: &mut ListOf<WordList>, item: usize)
     requires { item < length lists.old }
     ensures { (front : List ℕ) (answer : ℕ) → slice_index_or lists.old item [] ≡ front ++ answer ∷ [] → lists.new ≡ slice_set lists.old item front }
 {
-    let own = &mut lists[item];
+    let own = &mut lists.items[item];
     let _ = own.items.pop();
 }
 
@@ -141,4 +140,82 @@ fn zero_groups(alloc: Global, sizes: &SizeList, groups: u32) -> Result<ListOf<By
         }
     }
     Ok(ListOf { items: list })
+}
+
+impl Held {
+    ghost use Rattle.item_acts.specs.Launches.{IsInside, field_at};
+    ghost use Rattle.item_acts.specs.Worlds.{IsHeld, bytes_held, shape_of, entry_of, answered, logged, stored};
+
+    /// The number in a field, and None where the launch has no such field.
+    pub(crate) fn number_at(&self, place: Place, size: Size) -> Option<u32>
+        requires { IsHeld self.now }
+        ensures { MatchOption result (IsInside (shape_of self.now) place (bytes_of size) → ⊥)
+            (λ v. IsInside (shape_of self.now) place (bytes_of size) × (v ≡ field_at (bytes_held self.now) place (bytes_of size))) }
+    {
+        match place {
+            Place::Global { buffer, byte } => number_in(
+                self.buffers.as_slice(),
+                buffer,
+                byte,
+                size,
+            ),
+            Place::Local { group, array, byte } => number_in_group(
+                self.arrays.as_slice(),
+                group,
+                array,
+                byte,
+                size,
+            ),
+        }
+    }
+
+    /// Writes a number into a field that the launch has.
+    pub(crate) fn put_at(&mut self, place: Place, size: Size, value: u32)
+        requires held { IsHeld self.old }
+        requires inside { IsInside (shape_of self.old) place (bytes_of size) }
+        ensures { self.new ≡ stored self.old place (bytes_of size) value }
+    {
+        match place {
+            Place::Global { buffer, byte } => put_in(&mut self.buffers, buffer, byte, size, value),
+            Place::Local { group, array, byte } => put_in_group(
+                &mut self.arrays,
+                group,
+                array,
+                byte,
+                size,
+                value,
+            ),
+        }
+    }
+
+    /// Notes an access of an item and its answer, and leaves all as it was where memory runs out.
+    pub(crate) fn note(
+        &mut self,
+        item: u32,
+        place: Place,
+        size: Size,
+        writes: bool,
+        answer: u32,
+    ) -> Result<(), Memory>
+        requires held { IsHeld self.old }
+        requires exists { item < self.old.items }
+        ensures ok { IfOk result (λ _. self.new ≡ answered (logged self.old (entry_of self.old item place size writes)) item answer) }
+        ensures err { OnErr result (self.new ≡ self.old) }
+    {
+        let group = item / self.local;
+        let entry = LogEntry {
+            item,
+            group,
+            epoch: self.epochs.items[group as usize],
+            place,
+            size,
+            writes,
+        };
+        add_entry(&mut self.log, entry)?;
+        if add_answer(&mut self.answers, item as usize, answer).is_err() {
+            drop_entry(&mut self.log);
+            return Err(Memory);
+        }
+        Ok(())
+    }
 }

@@ -5,6 +5,7 @@
 //! `specs/Launches.antt` and `specs/Tame.antt` for launches.
 #![tactic(auto)]
 
+pub mod acting;
 pub mod acts;
 pub mod arrays;
 pub mod code;
