@@ -7,3 +7,5 @@ pub mod Schedules
 pub mod RaceTests
 pub mod HeldLaws
 pub mod HeldActs
+pub mod HeldOpens
+pub mod WorldTurns

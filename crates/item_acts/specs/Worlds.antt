@@ -1,5 +1,5 @@
 -- What the lists that a world holds stand for: a launch, the state that it has come to, and the log of its accesses.
-use Rattle.std.specs.Prelude.{◌≡◌, ℕ, suc, ◌+◌, ◌*◌, ◌/◌, ◌%◌, ◌<◌, ◌≤◌, IsTrue, Bool, ◌⊎◌, List, [], ◌∷◌, ◌++◌, length, map, Some, slice_get, slice_index, slice_index_or, slice_set}
+use Rattle.std.specs.Prelude.{◌≡◌, ℕ, suc, ◌+◌, ◌*◌, ◌/◌, ◌%◌, ◌<◌, ◌≤◌, IsTrue, Bool, ◌⊎◌, List, [], ◌∷◌, ◌++◌, length, map, Some, slice_get, slice_index, slice_index_or, slice_set, replicate}
 use Rattle.vx_base.specs.Bytes.{bytes_of, with_field}
 use Rattle.vx_base.specs.declared.types.Pos.{Pos}
 use Rattle.vx_base.specs.declared.types.Size.{Size}
@@ -9,7 +9,7 @@ use Rattle.item_acts.specs.declared.acts.Point.{Point}
 use Rattle.item_acts.specs.declared.acts.Action.{Action}
 use Rattle.item_acts.specs.declared.acts.Action.TheVariants.{Barrier}
 use Rattle.item_acts.specs.declared.acts.Asked.{Asked}
-use Rattle.item_acts.specs.declared.acts.Asked.TheVariants.{Running}
+use Rattle.item_acts.specs.declared.acts.Asked.TheVariants.{Act, Running}
 use Rattle.item_acts.specs.declared.faults.TurnFault.{TurnFault}
 use Rattle.item_acts.specs.declared.faults.TurnFault.TheVariants.{NotReady, Memory}
 use Rattle.item_acts.specs.declared.faults.Why.TheVariants.{Ended as StandsEnded, Faulted as StandsFaulted, Waits as IsWaiting, Running as RunsOn, Nowhere}
@@ -17,7 +17,7 @@ use Rattle.item_acts.specs.declared.races.LogEntry.{LogEntry}
 use Rattle.item_acts.specs.declared.held.Held.{Held}
 use Rattle.item_acts.specs.declared.held.Progress.{Progress}
 use Rattle.item_acts.specs.declared.held.Progress.TheVariants.{Going as GoesOn, Ended as HasEnded, Faulted as HasFaulted}
-use Rattle.item_acts.specs.Launches.{Launch, State, Standing, Going, Ended, Faulted, Does, after, IsTurn}
+use Rattle.item_acts.specs.Launches.{Launch, State, Standing, Going, Ended, Faulted, Does, after, IsTurn, MayDo}
 use Rattle.item_acts.specs.Tame.{Access, accesses_of}
 use Rattle.item_acts.specs.OneResult.{IsWithin}
 
@@ -52,6 +52,10 @@ state_of h = record {
   standing = λ item. standing_of (slice_index_or h.progress item GoesOn);
   epochs = λ group. slice_index h.epochs group;
 }
+
+-- a byte of a buffer
+abbrev pub buffer_byte : State → ℕ → ℕ → ℕ
+buffer_byte s buffer byte = s.bytes (Global buffer byte)
 
 -- the log that they stand for
 abbrev pub accesses_held : Held → List Access
@@ -129,3 +133,40 @@ IsNoTurn l a (NotReady IsWaiting) = (point : Point) × (a ≡ Barrier point)
 IsNoTurn l a (NotReady RunsOn) = ⊥
 IsNoTurn l a (NotReady Nowhere) = IsWithin l a → ⊥
 IsNoTurn l a Memory = Unit {0}
+
+-- The contents of a world: the code of its items, how many small steps an action may take, and the lists.
+pub record Contents (C : Type 0) : Type 0 where
+  pub code : C
+  pub fuel : ℕ
+  pub held : Held
+
+-- an item did what it asks for within these small steps: the state is the one behind the turn, and the log has grown by it
+pub record HasTurned (l : Launch) (h h' : Held) (item fuel : ℕ) : Type 0 where
+  pub action : Action
+  pub asked : l.asks item ((state_of h).answers item) fuel ≡ Act action
+  pub may : MayDo l (state_of h) item action
+  pub state : state_of h' ≡ after l (state_of h) (Does item action)
+  pub log : accesses_held h' ≡ accesses_held h ++ accesses_of l (state_of h) (Does item action)
+
+-- why an item made no turn: the reason that holds
+abbrev pub IsRefused : Launch → State → ℕ → ℕ → TurnFault → Type 0
+IsRefused l s item fuel (NotReady StandsEnded) = s.standing item ≡ Ended
+IsRefused l s item fuel (NotReady StandsFaulted) = (pos : Pos) × (s.standing item ≡ Faulted pos)
+IsRefused l s item fuel (NotReady IsWaiting) = (s.standing item ≡ Going) × ((point : Point) × (l.asks item (s.answers item) fuel ≡ Act (Barrier point)))
+IsRefused l s item fuel (NotReady RunsOn) = (s.standing item ≡ Going) × (l.asks item (s.answers item) fuel ≡ Running)
+IsRefused l s item fuel (NotReady Nowhere) = (s.standing item ≡ Going) × ((a : Action) × (l.asks item (s.answers item) fuel ≡ Act a) × (IsWithin l a → ⊥))
+IsRefused l s item fuel Memory = Unit {0}
+
+-- the lists when a world begins
+abbrev pub opening : ℕ → ℕ → List (List ℕ) → List ℕ → Held
+opening items local buffers sizes = record {
+  items = items;
+  local = local;
+  sizes = sizes;
+  buffers = buffers;
+  arrays = replicate (items / local) (map (λ size. replicate size 0) sizes);
+  answers = replicate items [];
+  progress = replicate items GoesOn;
+  epochs = replicate (items / local) 0;
+  log = [];
+}

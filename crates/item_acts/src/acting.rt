@@ -66,7 +66,7 @@ impl Held {
     }
 
     /// Does for an item what it asks for, and leaves all as it was where that is no turn or where memory runs out.
-    pub(crate) fn act(&mut self, item: u32, action: &Action) -> Result<(), TurnFault>
+    fn act(&mut self, item: u32, action: &Action) -> Result<(), TurnFault>
         requires held { IsHeld self.old }
         requires exists { item < self.old.items }
         requires going { slice_index_or self.old.progress item Progress.Going ≡ Progress.Going }
@@ -89,5 +89,19 @@ impl Held {
                 Ok(())
             }
         }
+    }
+
+    /// Does for an item what it asks for, as `act` does.
+    pub(crate) fn perform(&mut self, item: u32, action: Action) -> Result<(), TurnFault>
+        requires held { IsHeld self.old }
+        requires exists { item < self.old.items }
+        requires going { slice_index_or self.old.progress item Progress.Going ≡ Progress.Going }
+        ensures done { IfOk result (λ _. (asks : ℕ → List ℕ → ℕ → Asked) → ActsAs (launch_of asks self.old) self.old self.new item action) }
+        ensures launch { (asks : ℕ → List ℕ → ℕ → Asked) → launch_of asks self.new ≡ launch_of asks self.old }
+        ensures held { IsHeld self.new }
+        ensures refused { IfErr result (λ fault. IsNoTurn (shape_of self.old) action fault) }
+        ensures kept { OnErr result (self.new ≡ self.old) }
+    {
+        self.act(item, &action)
     }
 }

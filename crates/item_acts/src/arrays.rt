@@ -1,5 +1,5 @@
 //! The bytes of some arrays, and numbers in them.
-ghost use Rattle.std.specs.Prelude.{◌≡◌, ℕ, ◌+◌, ◌<◌, ◌≤◌, [], length, map, MatchOption, IfOk, slice_set, slice_index_or, replicate};
+ghost use Rattle.std.specs.Prelude.{◌≡◌, ℕ, ◌+◌, ◌<◌, ◌≤◌, [], length, map, MatchOption, IfOk, slice_set, slice_index, slice_index_or, replicate};
 ghost use Rattle.vx_base.specs.Bytes.{bytes_of, field_of, with_field};
 
 use std::alloc::Global;
@@ -7,6 +7,23 @@ use vx_base::{ListOf, Memory, Size, Text, get_le, put_le};
 
 /// The bytes of some arrays, a text for each.
 pub type BytesList = ListOf<Text>;
+
+/// A byte of one of the arrays, and None where there is no such byte.
+pub(crate) fn byte_in(arrays: &[Text], array: u32, byte: u32) -> Option<u8>
+    ensures { MatchOption result (length (slice_index_or arrays.now array []) ≤ byte)
+        (λ value. (byte < length (slice_index_or arrays.now array [])) × (value ≡ slice_index (slice_index_or arrays.now array []) byte)) }
+{
+    let index = array as usize;
+    if index >= arrays.len() {
+        return None;
+    }
+    let bytes = arrays[index].as_slice();
+    let at = byte as usize;
+    if at >= bytes.len() {
+        return None;
+    }
+    Some(bytes[at])
+}
 
 /// The number in a field of one of the arrays, the least significant byte first, and None where there is no such field.
 pub(crate) fn number_in(arrays: &[Text], array: u32, byte: u32, size: Size) -> Option<u32>

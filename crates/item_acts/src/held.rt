@@ -143,8 +143,41 @@ fn zero_groups(alloc: Global, sizes: &SizeList, groups: u32) -> Result<ListOf<By
 }
 
 impl Held {
+    ghost use Rattle.item_acts.specs.Worlds.{opening};
     ghost use Rattle.item_acts.specs.Launches.{IsInside, field_at};
     ghost use Rattle.item_acts.specs.Worlds.{IsHeld, bytes_held, shape_of, entry_of, answered, logged, stored};
+
+    /// The lists of a new world: these buffers, no answers, no accesses, and each local array filled with zeros.
+    pub(crate) fn open(
+        alloc: Global,
+        items: u32,
+        local: u32,
+        buffers: BytesList,
+        sizes: SizeList,
+    ) -> Result<Held, Memory>
+        requires { 0 < local }
+        ensures { IfOk result (λ held. held ≡ opening items local buffers sizes) }
+    {
+        let groups = items / local;
+        let arrays = zero_groups(alloc, &sizes, groups)?;
+        let answers = no_answers(alloc, items)?;
+        let progress = all_going(alloc, items)?;
+        let epochs = no_passes(alloc, groups)?;
+        let log = ListOf {
+            items: Vec::new(alloc),
+        };
+        Ok(Held {
+            items,
+            local,
+            sizes,
+            buffers,
+            arrays,
+            answers,
+            progress,
+            epochs,
+            log,
+        })
+    }
 
     /// The number in a field, and None where the launch has no such field.
     pub(crate) fn number_at(&self, place: Place, size: Size) -> Option<u32>

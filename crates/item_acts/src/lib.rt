@@ -14,6 +14,7 @@ pub mod held;
 pub mod laws;
 pub mod races;
 pub mod tame_laws;
+pub mod world;
 
 pub use acts::{Action, Asked, Bound, BoundList, Place, Point, Range, TurnList};
 pub use code::ItemCode;
