@@ -1,5 +1,5 @@
 -- Each action on the lists that a world holds leads where the definition of a turn leads.
-use Rattle.std.proofs.Common.{◌≡◌, ◌≢◌, ℕ, zero, suc, ◌+◌, ◌*◌, ◌/◌, ◌%◌, ◌<◌, ◌≤◌, Bool, true, false, cond, nat_eq, List, [], ◌∷◌, ◌++◌, length, map, get_or, set, refl, ap, sym, ◌∙◌, subst, inl, inr, arith, length-append}
+use Rattle.std.proofs.Common.{◌≡◌, ℕ, ◌+◌, ◌/◌, ◌<◌, ◌≤◌, Bool, true, false, cond, nat_eq, List, [], ◌∷◌, ◌++◌, length, map, get_or, set, refl, ap, sym, ◌∙◌, inl, inr, arith, length-append}
 use Rattle.std.proofs.Math.Path.{fun_ext}
 use Rattle.std.proofs.Math.Seq.{map-set_same}
 use Rattle.std.proofs.Math.ListN.{length-set}
@@ -11,18 +11,17 @@ use Rattle.vx_base.specs.declared.types.Size.{Size}
 use Rattle.vx_base.proofs.FieldLaws.{length-with_field}
 use Rattle.item_acts.specs.declared.acts.Place.{Place}
 use Rattle.item_acts.specs.declared.acts.Place.TheVariants.{Global, Local}
-use Rattle.item_acts.specs.declared.acts.Action.{Action}
 use Rattle.item_acts.specs.declared.acts.Action.TheVariants.{Load, Store, Fault, End}
 use Rattle.item_acts.specs.declared.acts.Asked.{Asked}
 use Rattle.item_acts.specs.declared.races.LogEntry.{LogEntry}
 use Rattle.item_acts.specs.declared.held.Held.{Held}
 use Rattle.item_acts.specs.declared.held.Progress.{Progress}
 use Rattle.item_acts.specs.declared.held.Progress.TheVariants.{Going as GoesOn, Ended as HasEnded, Faulted as HasFaulted}
-use Rattle.item_acts.specs.Launches.{Launch, State, Standing, Going, Ended, Faulted, field_at, put_at, IsInside}
-use Rattle.item_acts.specs.Worlds.{access_from, standing_of, array_in, group_in, bytes_held, state_of, launch_of, shape_of, IsHeld, entry_of, logged, answered, stood, stored, ActsAs}
+use Rattle.item_acts.specs.Launches.{Standing, Going, field_at, put_at, IsInside}
+use Rattle.item_acts.specs.Worlds.{access_from, standing_of, array_in, group_in, bytes_held, launch_of, shape_of, IsHeld, entry_of, logged, answered, stood, stored, ActsAs}
 use Rattle.item_acts.proofs.Swaps.{same_state}
 use Rattle.item_acts.proofs.RaceTests.{bytes_of-pos}
-use Rattle.item_acts.proofs.HeldLaws.{size_at, bytes_same, set_put, put_own, bytes_stored, group_behind}
+use Rattle.item_acts.proofs.HeldLaws.{size_at, bytes_same, set_put, put_own, bytes_stored}
 
 -- what is inside does not turn on what items ask for
 inside_any : (asks : ℕ → List ℕ → ℕ → Asked) (h : Held) (p : Place) (n : ℕ) → IsInside (shape_of h) p n → IsInside (launch_of asks h) p n

@@ -1,27 +1,18 @@
 -- What the turns of a world do with its lists is what the definitions of launches say.
-use Rattle.std.proofs.Common.{◌≡◌, ◌≢◌, ℕ, zero, suc, ◌+◌, ◌-◌, ◌*◌, ◌/◌, ◌%◌, ◌<◌, ◌≤◌, ◌⊎◌, Bool, true, false, ◌&&◌, cond, nat_eq, nat_le, nat_lt, List, [], ◌∷◌, ◌++◌, length, map, get_or, set, Option, None, Some, refl, ap, sym, ◌∙◌, subst, inl, inr, arith, eq-eqb, ne_eqb, le-leb, lt-ltb, length-append}
+use Rattle.std.proofs.Common.{◌≡◌, ℕ, zero, suc, ◌+◌, ◌-◌, ◌*◌, ◌/◌, ◌%◌, ◌<◌, ◌≤◌, ◌⊎◌, Bool, true, false, ◌&&◌, cond, nat_eq, nat_le, nat_lt, List, [], ◌∷◌, length, map, get_or, set, Option, None, Some, refl, ap, sym, ◌∙◌, inl, inr, arith, eq-eqb, ne_eqb, le-leb, lt-ltb}
 use Rattle.std.proofs.Math.Path.{fun_ext}
-use Rattle.std.proofs.Math.Nat.{mul-le-mul_left, mul_comm}
-use Rattle.std.proofs.Math.Seq.{map-set_same}
-use Rattle.std.proofs.Math.ListN.{length-set}
+use Rattle.std.proofs.Math.Nat.{mul-le-mul_left}
 use Rattle.std.proofs.lemmas.Bool.{cases_eq, cases_lt, and_from, and_left, and_right, cond-true, cond-false, le-ltb, lt-leb}
-use Rattle.std.proofs.lemmas.List.{get_or-set_same, get_or-set_other, get_or_past, map-append, append-nil}
+use Rattle.std.proofs.lemmas.List.{get_or-set_same, get_or-set_other, get_or_past}
 use Rattle.std.specs.Option.{MatchOption}
 use Rattle.vx_base.specs.Bytes.{bytes_of, byte_of, field_of, with_field}
-use Rattle.vx_base.specs.declared.types.Pos.{Pos}
 use Rattle.vx_base.specs.declared.types.Size.{Size}
-use Rattle.vx_base.proofs.FieldLaws.{length-with_field, place_by_field, get_or-with_field_in, get_or-with_field_out}
+use Rattle.vx_base.proofs.FieldLaws.{place_by_field, get_or-with_field_in, get_or-with_field_out}
 use Rattle.item_acts.specs.declared.acts.Place.{Place}
 use Rattle.item_acts.specs.declared.acts.Place.TheVariants.{Global, Local}
-use Rattle.item_acts.specs.declared.acts.Action.{Action}
-use Rattle.item_acts.specs.declared.acts.Action.TheVariants.{Load, Store, Fault, End}
-use Rattle.item_acts.specs.declared.acts.Asked.{Asked}
 use Rattle.item_acts.specs.declared.held.Held.{Held}
-use Rattle.item_acts.specs.declared.held.Progress.{Progress}
-use Rattle.item_acts.specs.declared.held.Progress.TheVariants.{Going as GoesOn, Ended as HasEnded, Faulted as HasFaulted}
-use Rattle.item_acts.specs.Launches.{Launch, State, Standing, Going, Ended, Faulted, covers, field_at, with_field_at, put_at, Does, after, IsInside}
-use Rattle.item_acts.specs.Worlds.{access_from, standing_of, array_in, group_in, bytes_held, state_of, accesses_held, launch_of, shape_of, IsHeld, entry_of, logged, answered, stood, buffers_with, groups_with, stored, ActsAs}
-use Rattle.item_acts.proofs.Swaps.{same_state}
+use Rattle.item_acts.specs.Launches.{field_at, with_field_at, put_at, IsInside}
+use Rattle.item_acts.specs.Worlds.{array_in, group_in, bytes_held, shape_of, IsHeld, stored}
 use Rattle.item_acts.proofs.RaceTests.{bytes_of-pos}
 
 -- the number of bytes of an array

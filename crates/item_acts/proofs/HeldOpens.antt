@@ -1,15 +1,14 @@
 -- The lists of a new world fit, and stand for the start of a launch.
-use Rattle.std.proofs.Common.{◌≡◌, ℕ, zero, suc, ◌+◌, ◌*◌, ◌/◌, ◌%◌, ◌<◌, ◌≤◌, List, [], ◌∷◌, length, map, get_or, refl, ap, sym, ◌∙◌, subst, inl, inr, arith}
+use Rattle.std.proofs.Common.{◌≡◌, ℕ, zero, suc, ◌/◌, ◌%◌, ◌<◌, List, [], ◌∷◌, length, map, get_or, refl, ap, sym, ◌∙◌, subst, inl, inr, arith}
 use Rattle.std.specs.Prelude.{replicate}
 use Rattle.std.proofs.Math.Path.{fun_ext}
 use Rattle.std.proofs.lemmas.Bool.{cases_lt}
 use Rattle.std.proofs.lemmas.List.{get_or-replicate, get_or_past, length-replicate}
-use Rattle.item_acts.specs.declared.acts.Place.{Place}
 use Rattle.item_acts.specs.declared.acts.Place.TheVariants.{Global, Local}
 use Rattle.item_acts.specs.declared.held.Progress.{Progress}
 use Rattle.item_acts.specs.declared.held.Progress.TheVariants.{Going as GoesOn}
 use Rattle.item_acts.specs.Launches.{start}
-use Rattle.item_acts.specs.Worlds.{standing_of, array_in, group_in, bytes_held, state_of, IsHeld, opening}
+use Rattle.item_acts.specs.Worlds.{standing_of, array_in, state_of, IsHeld, opening}
 use Rattle.item_acts.proofs.Swaps.{same_state}
 
 -- what holds of the one element and of the default holds of each element

@@ -9,3 +9,4 @@ pub mod HeldLaws
 pub mod HeldActs
 pub mod HeldOpens
 pub mod WorldTurns
+pub mod Answering

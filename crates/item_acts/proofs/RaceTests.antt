@@ -1,6 +1,6 @@
 -- What the tests for races come to: a shared byte, two accesses that race, and places of a log whose accesses do.
-use Rattle.std.proofs.Common.{◌≡◌, ◌≢◌, ℕ, zero, suc, ◌+◌, ◌<◌, ◌≤◌, ◌⊎◌, Bool, true, false, ◌&&◌, ◌||◌, nat_eq, nat_le, nat_lt, List, length, map, slice_get, Some, get_or, refl, ap, sym, ◌∙◌, subst, subst₂, inl, inr, arith, eq-eqb, le-leb, lt-ltb, eqb-true, leb-true, ltb-true}
-use Rattle.std.proofs.lemmas.Bool.{cases_eq, cases_lt, cases_order, and_from, and_parts, or_left, or_right, or_cases}
+use Rattle.std.proofs.Common.{◌≡◌, ℕ, ◌+◌, ◌<◌, ◌≤◌, Bool, true, false, ◌&&◌, nat_eq, nat_le, nat_lt, List, length, map, slice_get, Some, get_or, refl, ap, sym, ◌∙◌, subst, subst₂, inl, inr, arith, eq-eqb, le-leb, lt-ltb, eqb-true, leb-true, ltb-true}
+use Rattle.std.proofs.lemmas.Bool.{cases_lt, cases_order, and_from, and_parts, or_left, or_right, or_cases}
 use Rattle.std.proofs.lemmas.Option.{slice_get-map, slice_get-get_or, slice_get_within}
 use Rattle.std.proofs.lemmas.List.{length-map}
 use Rattle.std.specs.Option.{option_map}

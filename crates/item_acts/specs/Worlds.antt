@@ -1,5 +1,5 @@
 -- What the lists that a world holds stand for: a launch, the state that it has come to, and the log of its accesses.
-use Rattle.std.specs.Prelude.{◌≡◌, ℕ, suc, ◌+◌, ◌*◌, ◌/◌, ◌%◌, ◌<◌, ◌≤◌, IsTrue, Bool, ◌⊎◌, List, [], ◌∷◌, ◌++◌, length, map, Some, slice_get, slice_index, slice_index_or, slice_set, replicate}
+use Rattle.std.specs.Prelude.{Option, MatchOption, ◌≡◌, ℕ, ◌+◌, ◌/◌, ◌%◌, ◌<◌, ◌≤◌, Bool, ◌⊎◌, List, [], ◌∷◌, ◌++◌, length, map, slice_index, slice_index_or, slice_set, replicate}
 use Rattle.vx_base.specs.Bytes.{bytes_of, with_field}
 use Rattle.vx_base.specs.declared.types.Pos.{Pos}
 use Rattle.vx_base.specs.declared.types.Size.{Size}
@@ -10,6 +10,8 @@ use Rattle.item_acts.specs.declared.acts.Action.{Action}
 use Rattle.item_acts.specs.declared.acts.Action.TheVariants.{Barrier}
 use Rattle.item_acts.specs.declared.acts.Asked.{Asked}
 use Rattle.item_acts.specs.declared.acts.Asked.TheVariants.{Act, Running}
+use Rattle.item_acts.specs.declared.faults.PassFault.{PassFault}
+use Rattle.item_acts.specs.declared.faults.PassFault.TheVariants.{NotTogether, Memory as NoMemory}
 use Rattle.item_acts.specs.declared.faults.TurnFault.{TurnFault}
 use Rattle.item_acts.specs.declared.faults.TurnFault.TheVariants.{NotReady, Memory}
 use Rattle.item_acts.specs.declared.faults.Why.TheVariants.{Ended as StandsEnded, Faulted as StandsFaulted, Waits as IsWaiting, Running as RunsOn, Nowhere}
@@ -17,7 +19,7 @@ use Rattle.item_acts.specs.declared.races.LogEntry.{LogEntry}
 use Rattle.item_acts.specs.declared.held.Held.{Held}
 use Rattle.item_acts.specs.declared.held.Progress.{Progress}
 use Rattle.item_acts.specs.declared.held.Progress.TheVariants.{Going as GoesOn, Ended as HasEnded, Faulted as HasFaulted}
-use Rattle.item_acts.specs.Launches.{Launch, State, Standing, Going, Ended, Faulted, Does, after, IsTurn, MayDo}
+use Rattle.item_acts.specs.Launches.{Launch, State, Standing, Going, Ended, Faulted, Does, Passes, after, IsTurn, MayDo, MayPass, group_of}
 use Rattle.item_acts.specs.Tame.{Access, accesses_of}
 use Rattle.item_acts.specs.OneResult.{IsWithin}
 
@@ -170,3 +172,34 @@ opening items local buffers sizes = record {
   epochs = replicate (items / local) 0;
   log = [];
 }
+
+-- the items from first on, so many of them, have been answered 0 once more, and the others have not
+pub record HaveAnswered (first count : ℕ) (old now : List (List ℕ)) : Type 0 where
+  pub same_length : length now ≡ length old
+  pub inside : (item : ℕ) → first ≤ item → item < first + count → slice_index_or now item [] ≡ slice_index_or old item [] ++ 0 ∷ []
+  pub outside : (item : ℕ) → (item < first) ⊎ (first + count ≤ item) → slice_index_or now item [] ≡ slice_index_or old item []
+
+-- the item goes on, and within these small steps asks to pass a barrier at this point
+abbrev pub WaitsWithin : Launch → State → ℕ → ℕ → Point → Type 0
+WaitsWithin l s fuel item point = (s.standing item ≡ Going) × (l.asks item (s.answers item) fuel ≡ Act (Barrier point))
+
+-- so do all items of a group
+abbrev pub AllWaitWithin : Launch → State → ℕ → ℕ → Point → Type 0
+AllWaitWithin l s fuel group point = (item : ℕ) → item < l.items → group_of l item ≡ group → WaitsWithin l s fuel item point
+
+-- a group has passed the barrier at which all of its items wait: the state is the one behind the pass, and the log is as it was
+pub record HasPassed (l : Launch) (h h' : Held) (group fuel : ℕ) : Type 0 where
+  pub point : Point
+  pub waited : AllWaitWithin l (state_of h) fuel group point
+  pub may : MayPass l (state_of h) group point
+  pub state : state_of h' ≡ after l (state_of h) (Passes group point)
+  pub log : accesses_held h' ≡ accesses_held h
+
+-- why a group did not pass: its items do not all wait at one point
+abbrev pub IsRefusedPass : Launch → State → ℕ → ℕ → PassFault → Type 0
+IsRefusedPass l s fuel group NotTogether = (point : Point) → AllWaitWithin l s fuel group point → ⊥
+IsRefusedPass l s fuel group NoMemory = Unit {0}
+
+-- the one point of which a fact holds, or that it holds of none
+abbrev pub IsPointOf : (Point → Type 0) → Option Point → Type 0
+IsPointOf P found = MatchOption found ((point : Point) → P point → ⊥) P

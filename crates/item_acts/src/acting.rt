@@ -18,6 +18,8 @@ impl Held {
         requires going { slice_index_or self.old.progress item Progress.Going ≡ Progress.Going }
         ensures done { IfOk result (λ _. (asks : ℕ → List ℕ → ℕ → Asked) → ActsAs (launch_of asks self.old) self.old self.new item (Load place size)) }
         ensures launch { (asks : ℕ → List ℕ → ℕ → Asked) → launch_of asks self.new ≡ launch_of asks self.old }
+        ensures items { self.new.items ≡ self.old.items }
+        ensures local { self.new.local ≡ self.old.local }
         ensures held { IsHeld self.new }
         ensures refused { IfErr result (λ fault. IsNoTurn (shape_of self.old) (Load place size) fault) }
         ensures kept { OnErr result (self.new ≡ self.old) }
@@ -39,6 +41,8 @@ impl Held {
         requires going { slice_index_or self.old.progress item Progress.Going ≡ Progress.Going }
         ensures done { IfOk result (λ _. (asks : ℕ → List ℕ → ℕ → Asked) → ActsAs (launch_of asks self.old) self.old self.new item (Store place size value)) }
         ensures launch { (asks : ℕ → List ℕ → ℕ → Asked) → launch_of asks self.new ≡ launch_of asks self.old }
+        ensures items { self.new.items ≡ self.old.items }
+        ensures local { self.new.local ≡ self.old.local }
         ensures held { IsHeld self.new }
         ensures refused { IfErr result (λ fault. IsNoTurn (shape_of self.old) (Store place size value) fault) }
         ensures kept { OnErr result (self.new ≡ self.old) }
@@ -72,6 +76,8 @@ impl Held {
         requires going { slice_index_or self.old.progress item Progress.Going ≡ Progress.Going }
         ensures done { IfOk result (λ _. (asks : ℕ → List ℕ → ℕ → Asked) → ActsAs (launch_of asks self.old) self.old self.new item action.now) }
         ensures launch { (asks : ℕ → List ℕ → ℕ → Asked) → launch_of asks self.new ≡ launch_of asks self.old }
+        ensures items { self.new.items ≡ self.old.items }
+        ensures local { self.new.local ≡ self.old.local }
         ensures held { IsHeld self.new }
         ensures refused { IfErr result (λ fault. IsNoTurn (shape_of self.old) action.now fault) }
         ensures kept { OnErr result (self.new ≡ self.old) }
@@ -98,6 +104,8 @@ impl Held {
         requires going { slice_index_or self.old.progress item Progress.Going ≡ Progress.Going }
         ensures done { IfOk result (λ _. (asks : ℕ → List ℕ → ℕ → Asked) → ActsAs (launch_of asks self.old) self.old self.new item action) }
         ensures launch { (asks : ℕ → List ℕ → ℕ → Asked) → launch_of asks self.new ≡ launch_of asks self.old }
+        ensures items { self.new.items ≡ self.old.items }
+        ensures local { self.new.local ≡ self.old.local }
         ensures held { IsHeld self.new }
         ensures refused { IfErr result (λ fault. IsNoTurn (shape_of self.old) action fault) }
         ensures kept { OnErr result (self.new ≡ self.old) }

@@ -45,7 +45,11 @@ pub struct Held {
 }
 
 /// Adds an answer to those of an item, and leaves all as it was where memory runs out.
-fn add_answer(lists: &mut ListOf<WordList>, item: usize, answer: u32) -> Result<(), Memory>
+pub(crate) fn add_answer(
+    lists: &mut ListOf<WordList>,
+    item: usize,
+    answer: u32,
+) -> Result<(), Memory>
     requires { item < length lists.old }
     ensures ok { IfOk result (λ _. lists.new ≡ slice_set lists.old item (slice_index_or lists.old item [] ++ answer ∷ [])) }
     ensures err { OnErr result (lists.new ≡ lists.old) }
@@ -58,9 +62,10 @@ fn add_answer(lists: &mut ListOf<WordList>, item: usize, answer: u32) -> Result<
 }
 
 /// Takes the last answer of an item away.
-fn drop_answer(lists: &mut ListOf<WordList>, item: usize)
+pub(crate) fn drop_answer(lists: &mut ListOf<WordList>, item: usize)
     requires { item < length lists.old }
-    ensures { (front : List ℕ) (answer : ℕ) → slice_index_or lists.old item [] ≡ front ++ answer ∷ [] → lists.new ≡ slice_set lists.old item front }
+    ensures same_length { length lists.new ≡ length lists.old }
+    ensures dropped { (front : List ℕ) (answer : ℕ) → slice_index_or lists.old item [] ≡ front ++ answer ∷ [] → lists.new ≡ slice_set lists.old item front }
 {
     let own = &mut lists.items[item];
     let _ = own.items.pop();

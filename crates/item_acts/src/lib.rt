@@ -12,6 +12,7 @@ pub mod code;
 pub mod faults;
 pub mod held;
 pub mod laws;
+pub mod passing;
 pub mod races;
 pub mod tame_laws;
 pub mod world;

@@ -1,15 +1,16 @@
 //! Worlds: the items of a launch, the bytes that they share, and what has come of them so far.
-ghost use Rattle.std.specs.Prelude.{◌≡◌, ℕ, ◌*◌, ◌%◌, ◌<◌, ◌≤◌, [], map, length, IfOk, OnErr, MatchOption, slice_index, slice_index_or};
+ghost use Rattle.std.specs.Prelude.{◌≡◌, ℕ, ◌*◌, ◌%◌, ◌<◌, ◌≤◌, [], map, length, IfOk, OnErr, MatchOption, MatchBool, ◌+◌, slice_index, slice_index_or};
 ghost use Rattle.std.specs.Result.{IfErr};
+ghost use Rattle.item_acts.specs.declared.acts.Point.{Point};
 ghost use Rattle.item_acts.specs.Launches.{start};
 ghost use Rattle.item_acts.specs.Tame.{HasRace};
-ghost use Rattle.item_acts.specs.Worlds.{array_in, state_of, buffer_byte, accesses_held, launch_of, HasTurned, IsRefused};
+ghost use Rattle.item_acts.specs.Worlds.{array_in, state_of, buffer_byte, accesses_held, launch_of, HasTurned, IsRefused, IsPointOf, WaitsWithin, AllWaitWithin, HasPassed, IsRefusedPass};
 ghost use Rattle.item_acts.specs.LeastRace.{IsLeastRace};
 
-use crate::acts::Asked;
+use crate::acts::{Action, Asked, Point};
 use crate::arrays::{BytesList, byte_in};
 use crate::code::ItemCode;
-use crate::faults::{TurnFault, Why};
+use crate::faults::{PassFault, TurnFault, Why};
 use crate::held::{Held, Progress};
 use crate::races::least_race;
 use std::alloc::Global;
@@ -34,6 +35,16 @@ impl<C> Model for World<C> {
     ghost invariant = { λ w. IsHeld w.held };
 }
 
+/// Whether two points are the same.
+fn same_point(one: &Point, other: &Point) -> bool
+    ensures { MatchBool result (one.now ≡ other.now) (one.now ≡ other.now → ⊥) }
+{
+    if one.site != other.site {
+        return false;
+    }
+    one.turns.as_slice() == other.turns.as_slice()
+}
+
 impl<C: ItemCode> World<C> {
     /// A world of `items` items in groups of `local`, over these buffers and over local arrays of these many bytes, which
     /// are 0 at first. An item's action is found within `fuel` small steps from the item's start.
@@ -52,6 +63,8 @@ impl<C: ItemCode> World<C> {
         requires whole { items % local ≡ 0 }
         ensures launch { IfOk result (λ world. launch_of (C.next_of world.code) world.held
             ≡ record { items = items; local = local; asks = C.next_of code; buffers = map length buffers; locals = locals }) }
+        ensures items { IfOk result (λ world. world.held.items ≡ items) }
+        ensures local { IfOk result (λ world. world.held.local ≡ local) }
         ensures code { IfOk result (λ world. world.code ≡ code) }
         ensures fuel { IfOk result (λ world. world.fuel ≡ fuel) }
         ensures state { IfOk result (λ world. state_of world.held ≡ start (λ buffer byte. slice_index (slice_index_or buffers buffer []) byte)) }
@@ -84,6 +97,8 @@ impl<C: ItemCode> World<C> {
         requires { item < self.old.held.items }
         ensures done { IfOk result (λ _. HasTurned (launch_of (C.next_of self.old.code) self.old.held) self.old.held self.new.held item self.old.fuel) }
         ensures launch { launch_of (C.next_of self.new.code) self.new.held ≡ launch_of (C.next_of self.old.code) self.old.held }
+        ensures items { self.new.held.items ≡ self.old.held.items }
+        ensures local { self.new.held.local ≡ self.old.held.local }
         ensures code { self.new.code ≡ self.old.code }
         ensures fuel { self.new.fuel ≡ self.old.fuel }
         ensures refused { IfErr result (λ fault. IsRefused (launch_of (C.next_of self.old.code) self.old.held) (state_of self.old.held) item self.old.fuel fault) }
@@ -99,6 +114,99 @@ impl<C: ItemCode> World<C> {
             Ok(Asked::Running) => Err(TurnFault::NotReady(Why::Running)),
             Ok(Asked::Act(action)) => self.held.perform(item, action),
         }
+    }
+
+    /// The point of the barrier that an item asks to pass within the world's small steps, and None where it does not.
+    fn point_of(&self, alloc: Global, item: u32) -> Result<Option<Point>, Memory>
+        requires { item < self.now.held.items }
+        ensures { IfOk result (λ found. IsPointOf (WaitsWithin (launch_of (C.next_of self.now.code) self.now.held) (state_of self.now.held) self.now.fuel item) found) }
+    {
+        match self.progress_of(item) {
+            Progress::Going => {}
+            Progress::Ended | Progress::Faulted(_) => return Ok(None),
+        }
+        match self.asked_by(alloc, item) {
+            Err(Memory) => Err(Memory),
+            Ok(Asked::Act(Action::Barrier(point))) => Ok(Some(point)),
+            Ok(_) => Ok(None),
+        }
+    }
+
+    /// Whether an item asks to pass a barrier at a point within the world's small steps.
+    fn waits_at(&self, alloc: Global, item: u32, point: &Point) -> Result<bool, Memory>
+        requires { item < self.now.held.items }
+        ensures { IfOk result (λ waits. MatchBool waits
+            (WaitsWithin (launch_of (C.next_of self.now.code) self.now.held) (state_of self.now.held) self.now.fuel item point.now)
+            (WaitsWithin (launch_of (C.next_of self.now.code) self.now.held) (state_of self.now.held) self.now.fuel item point.now → ⊥)) }
+    {
+        match self.point_of(alloc, item) {
+            Err(Memory) => Err(Memory),
+            Ok(None) => Ok(false),
+            Ok(Some(other)) => Ok(same_point(&other, point)),
+        }
+    }
+
+    /// Whether all items of a group ask to pass a barrier at one point within the world's small steps.
+    fn meets(&self, alloc: Global, group: u32) -> Result<bool, Memory>
+        requires { group * self.now.held.local < self.now.held.items }
+        ensures { IfOk result (λ meets. MatchBool meets
+            ((point : Point) × AllWaitWithin (launch_of (C.next_of self.now.code) self.now.held) (state_of self.now.held) self.now.fuel group point)
+            ((point : Point) → AllWaitWithin (launch_of (C.next_of self.now.code) self.now.held) (state_of self.now.held) self.now.fuel group point → ⊥)) }
+    {
+        let (first, end) = self.held.ends_of(group);
+        match self.point_of(alloc, first) {
+            Err(Memory) => Err(Memory),
+            Ok(None) => Ok(false),
+            Ok(Some(point)) => self.all_wait_at(alloc, first, end, &point),
+        }
+    }
+
+    /// Whether the items from `first` on and before `end` all ask to pass a barrier at a point.
+    fn all_wait_at(
+        &self,
+        alloc: Global,
+        first: u32,
+        end: u32,
+        point: &Point,
+    ) -> Result<bool, Memory>
+        requires { end ≤ self.now.held.items }
+        ensures { IfOk result (λ all. MatchBool all
+            ((item : ℕ) → first ≤ item → item < end → WaitsWithin (launch_of (C.next_of self.now.code) self.now.held) (state_of self.now.held) self.now.fuel item point.now)
+            ((item : ℕ) × (first ≤ item) × (item < end) × (WaitsWithin (launch_of (C.next_of self.now.code) self.now.held) (state_of self.now.held) self.now.fuel item point.now → ⊥))) }
+    {
+        for item in first..end {
+            match self.waits_at(alloc, item, point) {
+                Err(Memory) => return Err(Memory),
+                Ok(true) => {}
+                Ok(false) => return Ok(false),
+            }
+        }
+        Ok(true)
+    }
+
+    /// Lets a group pass the barrier at which all of its items wait. Where they do not all wait at one point, and where
+    /// memory runs out, the world is as it was.
+    pub fn pass(&mut self, alloc: Global, group: u32) -> Result<(), PassFault>
+        requires { group * self.old.held.local < self.old.held.items }
+        ensures done { IfOk result (λ _. HasPassed (launch_of (C.next_of self.old.code) self.old.held) self.old.held self.new.held group self.old.fuel) }
+        ensures launch { launch_of (C.next_of self.new.code) self.new.held ≡ launch_of (C.next_of self.old.code) self.old.held }
+        ensures items { self.new.held.items ≡ self.old.held.items }
+        ensures local { self.new.held.local ≡ self.old.held.local }
+        ensures code { self.new.code ≡ self.old.code }
+        ensures fuel { self.new.fuel ≡ self.old.fuel }
+        ensures refused { IfErr result (λ fault. IsRefusedPass (launch_of (C.next_of self.old.code) self.old.held) (state_of self.old.held) self.old.fuel group fault) }
+        ensures unchanged { OnErr result (self.new ≡ self.old) }
+    {
+        match self.meets(alloc, group) {
+            Err(Memory) => return Err(PassFault::Memory),
+            Ok(false) => return Err(PassFault::NotTogether),
+            Ok(true) => {}
+        }
+        match self.held.release(group) {
+            Err(Memory) => return Err(PassFault::Memory),
+            Ok(()) => {}
+        }
+        Ok(())
     }
 
     /// The two places of the log whose accesses race, the earlier first: of all such pairs the one with the least first

@@ -1,4 +1,4 @@
-use Rattle.std.proofs.Common.{◌≡◌, ℕ}
+use Rattle.std.proofs.Common.{◌≡◌}
 use Rattle.std.specs.Prelude.{replicate}
 use Rattle.item_acts.specs.declared.held.Progress.TheVariants.{Going}
 use Rattle.item_acts.proofs.held.all_going.Given as goal

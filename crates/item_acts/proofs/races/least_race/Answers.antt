@@ -1,4 +1,4 @@
-use Rattle.std.proofs.Common.{◌<◌, arith}
+use Rattle.std.proofs.Common.{arith}
 use Rattle.item_acts.proofs.RaceTests.{race_within, no_races, least_pair}
 use Rattle.item_acts.proofs.races.least_race.Goals as goal
 

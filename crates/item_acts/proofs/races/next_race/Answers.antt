@@ -1,4 +1,4 @@
-use Rattle.std.proofs.Common.{◌<◌, length, map, arith, subst, inl, inr}
+use Rattle.std.proofs.Common.{map, arith, subst, inl, inr}
 use Rattle.std.proofs.lemmas.Bool.{cases_eq}
 use Rattle.item_acts.specs.Worlds.{access_from}
 use Rattle.item_acts.specs.LeastRace.{RacesAt}

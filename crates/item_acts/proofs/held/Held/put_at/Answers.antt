@@ -1,6 +1,4 @@
 use Rattle.item_acts.proofs.HeldLaws.{local_fits}
-use Rattle.item_acts.specs.Launches.{IsInside}
-use Rattle.item_acts.specs.Worlds.{shape_of}
 use Rattle.vx_base.specs.Bytes.{bytes_of}
 use Rattle.item_acts.proofs.held.Held.put_at.Goals as goal
 
