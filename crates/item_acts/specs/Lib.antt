@@ -5,3 +5,4 @@ pub mod Examples
 pub mod OneResult
 pub mod Worlds
 pub mod LeastRace
+pub mod SmallCodes

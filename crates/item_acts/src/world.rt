@@ -6,6 +6,7 @@ ghost use Rattle.item_acts.specs.Launches.{start};
 ghost use Rattle.item_acts.specs.Tame.{HasRace};
 ghost use Rattle.item_acts.specs.Worlds.{array_in, state_of, buffer_byte, accesses_held, launch_of, HasTurned, IsRefused, IsPointOf, WaitsWithin, AllWaitWithin, HasPassed, IsRefusedPass};
 ghost use Rattle.item_acts.specs.LeastRace.{IsLeastRace};
+ghost use Rattle.item_acts.specs.OneResult.{IsSettled};
 
 use crate::acts::{Action, Asked, Point};
 use crate::arrays::{BytesList, byte_in};
@@ -215,6 +216,15 @@ impl<C: ItemCode> World<C> {
         ensures { MatchOption result (HasRace (accesses_held self.now.held) → ⊥) (λ pair. IsLeastRace (accesses_held self.now.held) pair.0 pair.1) }
     {
         least_race(self.held.log.as_slice())
+    }
+
+    /// The launch of a world is one that the laws of tame launches speak of: more small steps never change what an item asks
+    /// for, and a group has at least one item.
+    pub fn laws_apply(&self)
+        ensures settled { IsSettled (launch_of (C.next_of self.now.code) self.now.held) }
+        ensures positive { 0 < self.now.held.local }
+    {
+        let _ = &self.code;
     }
 
     /// A byte of a buffer, and None where there is no such byte.
