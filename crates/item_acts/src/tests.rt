@@ -208,7 +208,7 @@ struct Behind {
 }
 
 /// What two items of this code leave that take their turns in this order.
-fn behind<C: ItemCode + Drop>(
+fn two_turns<C: ItemCode + Drop>(
     alloc: Global,
     code: C,
     first: u32,
@@ -231,8 +231,8 @@ fn own_bytes_come_out_in_any_order(rt: HostRuntime) {
         bytes: (Some(0), Some(1)),
         race: None,
     };
-    assert_eq!(rt; behind(rt.alloc(), OwnByte, 0, 1), Ok(left));
-    assert_eq!(rt; behind(rt.alloc(), OwnByte, 1, 0), Ok(left));
+    assert_eq!(rt; two_turns(rt.alloc(), OwnByte, 0, 1), Ok(left));
+    assert_eq!(rt; two_turns(rt.alloc(), OwnByte, 1, 0), Ok(left));
 }
 
 #[test]
@@ -241,7 +241,7 @@ fn stores_to_one_byte_race(rt: HostRuntime) {
         bytes: (Some(0), Some(9)),
         race: Some((0, 1)),
     };
-    assert_eq!(rt; behind(rt.alloc(), FirstByte, 1, 0), Ok(left));
+    assert_eq!(rt; two_turns(rt.alloc(), FirstByte, 1, 0), Ok(left));
 }
 
 /// What two items come to, then their group, and then two items again.
@@ -254,7 +254,7 @@ struct Course {
 
 /// The course of four items of this code in two groups: the first group takes its turns and tries to pass, and then these two
 /// items take a turn.
-fn course<C: ItemCode + Drop>(
+fn two_rounds<C: ItemCode + Drop>(
     alloc: Global,
     code: C,
     first: u32,
@@ -281,7 +281,7 @@ fn items_that_do_not_meet(rt: HostRuntime) {
         pass: Err(PassFault::NotTogether),
         behind: (Ok(()), Err(TurnFault::NotReady(Why::Nowhere))),
     };
-    assert_eq!(rt; course(rt.alloc(), Unlike, 2, 3), Ok(seen));
+    assert_eq!(rt; two_rounds(rt.alloc(), Unlike, 2, 3), Ok(seen));
 }
 
 #[test]
@@ -291,5 +291,5 @@ fn a_group_passes_together(rt: HostRuntime) {
         pass: Ok(()),
         behind: (Ok(()), Err(TurnFault::NotReady(Why::Ended))),
     };
-    assert_eq!(rt; course(rt.alloc(), Waiting, 1, 1), Ok(seen));
+    assert_eq!(rt; two_rounds(rt.alloc(), Waiting, 1, 1), Ok(seen));
 }
