@@ -1,0 +1,73 @@
+-- What the steps ask and tell, for ports.
+use Rattle.std.proofs.Common.{◌≡◌, ℕ, ◌+◌, ◌^◌, ◌<◌, ◌≤◌, List, [], ◌∷◌, ◌++◌, length, refl, ap, sym, ◌∙◌, subst, arith}
+use Rattle.std.specs.Int.{bit_at}
+use Rattle.std.proofs.lemmas.List.{append-nil}
+use mathlib.Core.List.{IsPrefix}
+use Rattle.atomic_table.specs.Table.{Allows}
+use Rattle.memory_banks.specs.declared.entry.BusKind.{BusKind}
+use Rattle.memory_banks.specs.declared.entry.BusEntry.{BusEntry}
+use Rattle.memory_banks.specs.declared.rule.View.{View}
+use Rattle.memory_banks.specs.declared.port.Port.{Port}
+use Rattle.memory_banks.specs.declared.banks.Banks.{Banks}
+use Rattle.memory_banks.specs.Entries.{answer_to, changed, entries_of, Adds}
+use Rattle.memory_banks.specs.Rule.{Among, Kept, Makes, Looks, with_seen, entry_by}
+use Rattle.memory_banks.specs.Ports.{IsOf, Steps, KeptIn, number, numbers, seen, list_of, opening_of}
+use Rattle.memory_banks.proofs.Prefixes.{entries-append, entries-own}
+use Rattle.memory_banks.proofs.Steps.{steps}
+
+-- the port's own number is among its view's
+pub own_among : (p : Port) → Among p.seat.me.0.numbers p.seat.me.0.number
+own_among p = subst (λ (z : ℕ × ℕ). Among z.0 z.1) (λ i. (sym p.numbers_are i, sym p.number_is i)) p.own
+
+pub few_numbers : (p : Port) → p.seat.me.0.numbers < 2 ^ 16
+few_numbers p = subst (λ (n : ℕ). n < 2 ^ 16) (sym p.numbers_are) p.few
+
+-- a port may make each kind of step on each word
+pub may_step : (banks : Banks) (p : Port) (kind : BusKind) (i operand : ℕ) → IsOf banks p → i < length (opening_of banks) → operand < 2 ^ 32
+    → (p.seat.table_id ≡ banks.table.shared.table_id) × (i < banks.table.shared.table_id.words)
+    × Allows (Kept banks.table.shared.key) banks.table.shared.table_id.slots p.seat.id p.seat.me i (λ n. changed kind n operand)
+        (λ found after. Makes p.seat.me.0 (entry_by p.seat.me.0 kind i operand (answer_to kind found)) after.0 × (after.1 ≡ p.seat.me.1) × (found < 2 ^ 32))
+may_step banks p kind i operand of within fits = (
+  of.table,
+  omega (arith, banks.one_more),
+  steps banks.table.shared.key banks.table.shared.table_id.slots p.seat.id p.seat.me kind i operand (own_among p) p.settled (few_numbers p) within fits,
+)
+
+-- the entry under the port's own number
+abbrev pub entry_of : Port → BusKind → ℕ → ℕ → ℕ → BusEntry
+entry_of p kind i operand answer = record { port = number p; kind = kind; word = i; operand = operand; answer = answer }
+
+-- the entries of the port itself after a step
+longer_list : (opening : List ℕ) (before : List BusEntry) (e : BusEntry) (now : List BusEntry) → Adds opening before e now → entries_of e.port now ≡ entries_of e.port before ++ e ∷ []
+longer_list opening before e now adds =
+    ap (entries_of e.port) adds.all
+    ∙ (entries-own (before ++ adds.between) e
+    ∙ ap (λ (es : List BusEntry). es ++ e ∷ [])
+        (entries-append e.port before adds.between ∙ (ap (λ (es : List BusEntry). entries_of e.port before ++ es) adds.none_own ∙ append-nil (entries_of e.port before))))
+
+-- what a step tells a port
+pub stepped : (banks : Banks) (p q : Port) (kind : BusKind) (i operand answer : ℕ) → IsOf banks p → q.number ≡ p.number → q.numbers ≡ p.numbers
+    → q.seat.table_id ≡ p.seat.table_id → Makes p.seat.me.0 (entry_by p.seat.me.0 kind i operand answer) q.seat.me.0
+    → Steps banks p (entry_of p kind i operand answer) q
+stepped banks p q kind i operand answer of same_number same_numbers same_table makes =
+    let e : BusEntry = entry_of p kind i operand answer in
+    let adds' : Adds p.seat.me.0.opening (seen p) e (seen q) =
+        subst (λ (n : ℕ). Adds p.seat.me.0.opening (seen p) (record { port = n; kind = kind; word = i; operand = operand; answer = answer }) (seen q)) p.number_is makes.adds in
+    let adds : Adds (opening_of banks) (seen p) e (seen q) = subst (λ (ws : List ℕ). Adds ws (seen p) e (seen q)) of.opening_is adds' in
+    record {
+      of = record { table = same_table ∙ of.table; opening_is = ap (λ (v : View). v.opening) makes.rest ∙ of.opening_is };
+      number_is = same_number;
+      numbers_are = same_numbers;
+      adds = adds;
+      list = ap (λ (n : ℕ). entries_of n (seen q)) same_number ∙ longer_list (opening_of banks) (seen p) e (seen q) adds;
+    }
+
+-- a view that only saw more
+pub makes_number : (v w : View) (e : BusEntry) → Makes v e w → w.number ≡ v.number
+makes_number v w e makes = ap (λ (u : View). u.number) makes.rest
+
+pub makes_numbers : (v w : View) (e : BusEntry) → Makes v e w → w.numbers ≡ v.numbers
+makes_numbers v w e makes = ap (λ (u : View). u.numbers) makes.rest
+
+pub makes_settled : (v w : View) (e : BusEntry) → Makes v e w → w.told_numbers ≡ v.told_numbers
+makes_settled v w e makes = ap (λ (u : View). u.told_numbers) makes.rest

@@ -1,0 +1,6 @@
+use Rattle.std.proofs.Common.{rules, ◌≡◌, ◌<◌, ◌≤◌, ◌+◌, ◌^◌, ℕ, [], ◌∷◌, ◌++◌, All, length, ◌-◌, List, arith, sym, subst, ap, ◌∙◌, refl}
+use Rattle.memory_banks.proofs.Seats.{opens}
+use Rattle.memory_banks.proofs.banks.Banks.of_words.Goals as goal
+
+pub of_words-requires : goal.of_words-requires
+of_words-requires c = opens c.args.words.now c.as_slice.result.now ? ?
