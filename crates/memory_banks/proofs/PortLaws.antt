@@ -1,19 +1,22 @@
 -- What the steps ask and tell, for ports.
 use Rattle.std.proofs.Common.{◌≡◌, ℕ, ◌+◌, ◌^◌, ◌<◌, ◌≤◌, List, [], ◌∷◌, ◌++◌, length, refl, ap, sym, ◌∙◌, subst, arith}
-use Rattle.std.specs.Int.{bit_at}
+use Rattle.std.specs.Int.{bit_at, trailing_zeros, w32}
 use Rattle.std.proofs.lemmas.List.{append-nil}
 use mathlib.Core.List.{IsPrefix}
-use Rattle.atomic_table.specs.Table.{Allows}
+use Rattle.atomic_table.specs.Table.{Allows, Splits}
 use Rattle.memory_banks.specs.declared.entry.BusKind.{BusKind}
 use Rattle.memory_banks.specs.declared.entry.BusEntry.{BusEntry}
 use Rattle.memory_banks.specs.declared.rule.View.{View}
 use Rattle.memory_banks.specs.declared.port.Port.{Port}
 use Rattle.memory_banks.specs.declared.banks.Banks.{Banks}
 use Rattle.memory_banks.specs.Entries.{answer_to, changed, entries_of, Adds}
-use Rattle.memory_banks.specs.Rule.{Among, Kept, Makes, Looks, with_seen, entry_by}
-use Rattle.memory_banks.specs.Ports.{IsOf, Steps, KeptIn, number, numbers, seen, list_of, opening_of}
-use Rattle.memory_banks.proofs.Prefixes.{entries-append, entries-own}
+use Rattle.memory_banks.specs.Rule.{Among, Kept, Makes, Looks, entry_by, both, giver, given, handed, held_of, keeper, least_of, note, one_of, teller, without}
+use Rattle.memory_banks.specs.Ports.{IsOf, Steps, KeptIn, held, held_set, number, numbers, seen, list_of, opening_of}
+use Rattle.memory_banks.proofs.Prefixes.{entries-append, entries-own, prefix_trans}
+use Rattle.memory_banks.proofs.Sets.{among_below, without_below}
+use Rattle.memory_banks.proofs.SetOrder.{least_below, some_in_order}
 use Rattle.memory_banks.proofs.Steps.{steps}
+use Rattle.memory_banks.proofs.Seats.{gives, hands_over, notes}
 
 -- the port's own number is among its view's
 pub own_among : (p : Port) → Among p.seat.me.0.numbers p.seat.me.0.number
@@ -71,3 +74,59 @@ makes_numbers v w e makes = ap (λ (u : View). u.numbers) makes.rest
 
 pub makes_settled : (v w : View) (e : BusEntry) → Makes v e w → w.told_numbers ≡ v.told_numbers
 makes_settled v w e makes = ap (λ (u : View). u.told_numbers) makes.rest
+
+pub number_below : (p : Port) → p.number < 16
+number_below p = among_below p.numbers p.number p.few p.own
+
+-- the view's sets are the port's
+held_is : (p : Port) → held_of p.seat.me.0 ≡ held_set p
+held_is p i = without (p.numbers_are i) (p.number_is i)
+
+module _ (p : Port) (longer : 0 < length (held p)) where
+  pub more : 0 < held_set p
+  more = some_in_order (held_set p) longer
+
+  abbrev pub least_held : ℕ
+  least_held = trailing_zeros w32 (held_set p)
+
+  pub least_is : least_of p.seat.me.0 ≡ least_held
+  least_is = ap (λ (n : ℕ). trailing_zeros w32 n) (held_is p)
+
+  pub least_held_below : least_held < 16
+  least_held_below = least_below p.numbers p.number p.few p.own more
+
+  pub left_is : without p.seat.me.0.numbers (least_of p.seat.me.0) ≡ without p.numbers least_held
+  left_is i = without (p.numbers_are i) (least_is i)
+
+  pub one_given : one_of (least_of p.seat.me.0) ≡ one_of least_held
+  one_given = ap one_of least_is
+
+  pub may_give : (banks : Banks) → IsOf banks p
+      → (p.seat.table_id ≡ banks.table.shared.table_id) × (0 < banks.table.shared.table_id.words) × Splits (Kept banks.table.shared.key) p.seat.id p.seat.me.0 (giver p.seat.me.0) (given p.seat.me.0)
+  may_give banks of = (
+    of.table,
+    omega (arith, banks.one_more),
+    gives banks.table.shared.key p.seat.id p.seat.me.0 (few_numbers p)
+      (subst (λ (n : ℕ). 0 < n) (sym (held_is p)) more)
+      (subst (λ (n : ℕ). n < 2 ^ 16) (sym (held_is p)) (without_below p.numbers p.number p.few)),
+  )
+
+pub may_hand_over : (banks : Banks) (p : Port) → IsOf banks p
+    → (p.seat.table_id ≡ banks.table.shared.table_id) × (0 < banks.table.shared.table_id.words) × Splits (Kept banks.table.shared.key) p.seat.id p.seat.me.0 (keeper p.seat.me.0) (handed p.seat.me.0)
+may_hand_over banks p of = (of.table, omega (arith, banks.one_more), hands_over banks.table.shared.key p.seat.id p.seat.me.0 (few_numbers p) (own_among p))
+
+pub may_note : (banks : Banks) (p : Port) → IsOf banks p
+    → (p.seat.table_id ≡ banks.table.shared.table_id) × (0 < banks.table.shared.table_id.words) × Splits (Kept banks.table.shared.key) p.seat.id p.seat.me.0 (teller p.seat.me.0) (note p.seat.me.0)
+may_note banks p of = (of.table, omega (arith, banks.one_more), notes banks.table.shared.key p.seat.id p.seat.me.0)
+
+-- what a look after a join tells
+pub looked : (v w x y : View) → x ≡ both v w → Looks x y → Looks (both v w) y
+looked v w x y same looks = subst (λ (u : View). Looks u y) same looks
+
+-- what was kept through two steps
+pub KeptIn-trans : (set : ℕ) (p q r : Port) → KeptIn set p q → KeptIn (numbers q) q r → KeptIn set p r
+KeptIn-trans set p q r first second = record {
+  has = λ k among. second.has k (first.has k among);
+  begins = prefix_trans (seen p) (seen q) (seen r) first.begins second.begins;
+  lists = λ k among. second.lists k (first.has k among) ∙ first.lists k among;
+}

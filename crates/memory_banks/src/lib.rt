@@ -16,10 +16,12 @@
 #![tactic(auto)]
 
 pub mod banks;
+pub mod crew;
 pub mod entry;
 pub mod port;
 pub mod rule;
 
 pub use banks::{Banks, bank_of};
+pub use crew::{PortList, close, gather, ports};
 pub use entry::{BusEntry, BusKind};
 pub use port::Port;
