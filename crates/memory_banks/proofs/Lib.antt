@@ -5,4 +5,5 @@ pub mod SetOrder
 pub mod Views
 pub mod Steps
 pub mod Seats
+pub mod Rows
 pub mod PortLaws

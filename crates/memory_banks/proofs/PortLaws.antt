@@ -1,7 +1,8 @@
 -- What the steps ask and tell, for ports.
-use Rattle.std.proofs.Common.{◌≡◌, ℕ, ◌+◌, ◌^◌, ◌<◌, ◌≤◌, List, [], ◌∷◌, ◌++◌, length, refl, ap, sym, ◌∙◌, subst, arith}
+use Rattle.std.proofs.Common.{◌≡◌, ℕ, ◌+◌, ◌^◌, ◌<◌, ◌≤◌, List, [], ◌∷◌, ◌++◌, length, map, refl, ap, sym, ◌∙◌, subst, arith, bit_or}
 use Rattle.std.specs.Int.{bit_at, trailing_zeros, w32}
-use Rattle.std.proofs.lemmas.List.{append-nil}
+use Rattle.std.proofs.lemmas.List.{append-nil, map_push}
+use Rattle.std.proofs.lemmas.List.Sums.{fold_push}
 use mathlib.Core.List.{IsPrefix}
 use Rattle.atomic_table.specs.Table.{Allows, Splits}
 use Rattle.memory_banks.specs.declared.entry.BusKind.{BusKind}
@@ -11,7 +12,7 @@ use Rattle.memory_banks.specs.declared.port.Port.{Port}
 use Rattle.memory_banks.specs.declared.banks.Banks.{Banks}
 use Rattle.memory_banks.specs.Entries.{answer_to, changed, entries_of, Adds}
 use Rattle.memory_banks.specs.Rule.{Among, Kept, Makes, Looks, entry_by, both, giver, given, handed, held_of, keeper, least_of, note, one_of, teller, without}
-use Rattle.memory_banks.specs.Ports.{IsOf, Steps, KeptIn, held, held_set, number, numbers, seen, list_of, opening_of}
+use Rattle.memory_banks.specs.Ports.{IsOf, Steps, KeptIn, held, held_set, number, numbers, seen, list_of, opening_of, union}
 use Rattle.memory_banks.proofs.Prefixes.{entries-append, entries-own, prefix_trans}
 use Rattle.memory_banks.proofs.Sets.{among_below, without_below}
 use Rattle.memory_banks.proofs.SetOrder.{least_below, some_in_order}
@@ -130,3 +131,8 @@ KeptIn-trans set p q r first second = record {
   begins = prefix_trans (seen p) (seen q) (seen r) first.begins second.begins;
   lists = λ k among. second.lists k (first.has k among) ∙ first.lists k among;
 }
+
+-- one set more
+pub union-push : {A : Type 0} (f : A → ℕ) (set : ℕ) (xs : List A) (x : A) (sum : ℕ) → sum ≡ union set (map f xs) → bit_or sum (f x) ≡ union set (map f (xs ++ x ∷ []))
+union-push f set xs x sum is =
+    ap (λ (n : ℕ). bit_or n (f x)) is ∙ sym (ap (union set) (map_push f xs x) ∙ fold_push bit_or set (map f xs) (f x))

@@ -51,6 +51,7 @@ not_among set k none = let two = bit_at-lt set k in let not_one : bit_at set k �
 
 -- one number without itself
 pub alone_without : (k : ℕ) → k < 16 → in_order (without (one_of k) k) ≡ []
+unfolding in_order
 alone_without k within =
     none_passes (λ j. eqb (bit_at (without (one_of k) k) j) 1) 0 16
       (λ j below. ne_eqb (bit_at (without (one_of k) k) j) 1
@@ -59,6 +60,7 @@ alone_without k within =
 
 -- a set that has numbers in order is not empty
 pub some_in_order : (set : ℕ) → 0 < length (in_order set) → 0 < set
+unfolding in_order
 some_in_order set longer =
     elim (cases_eq set 0) [
       | inl none ↦ let short : length (in_order set) ≡ 0 = ap (λ (n : ℕ). length (in_order n)) none in absurd (omega arith)
@@ -104,6 +106,7 @@ module _ (set own : ℕ) (few : set < 2 ^ 16) (among : Among set own) (more : 0 
 
   -- the least comes first, and the others follow
   pub in_order-least : in_order (without set own) ≡ least ∷ in_order (without (without set least) own)
+  unfolding in_order
   in_order-least =
       let l : least < 32 = (let x = least_below in omega arith) in
       let o : own < 32 = (let x = own_below in omega arith) in

@@ -1,5 +1,5 @@
 -- What clauses say of ports and banks.
-use Rattle.std.specs.Prelude.{◌≡◌, ℕ, ◌==◌, List, [], ◌∷◌, ◌++◌, filter, fold, length, bit_or}
+use Rattle.std.specs.Prelude.{◌≡◌, ℕ, ◌==◌, List, [], ◌∷◌, ◌++◌, filter, fold, length, ◌<◌, slice_index_or, bit_or}
 use Rattle.std.specs.Int.{bit_at}
 use Rattle.std.specs.List.{range_with_len}
 use mathlib.Core.List.{IsPrefix}
@@ -25,7 +25,7 @@ abbrev pub numbers : Port → ℕ
 numbers p = p.numbers
 
 -- the numbers in a set of bits, ascending
-abbrev pub in_order : ℕ → List ℕ
+unfoldable pub in_order : ℕ → List ℕ
 in_order set = filter (λ k. bit_at set k == 1) (range_with_len 0 16)
 
 -- the numbers that it holds and can give to new ports, ascending
@@ -82,7 +82,19 @@ pub record IsRenewed (banks : Banks) (p q : Port) : Type 0 where
   pub holds_none : held q ≡ []
   pub list : list_of q ≡ list_of p
 
--- a port with the number k, which holds none and has seen as much as p
+-- each port of a list
+pub record AreRenewed (banks : Banks) (ps qs : List Port) : Type 0 where
+  pub count : length qs ≡ length ps
+  pub each : (k : ℕ) (d : Port) → k < length ps → IsRenewed banks (slice_index_or ps k d) (slice_index_or qs k d)
+
+-- the port stands as before, but may have seen more
+pub record StandsAs (banks : Banks) (p q : Port) : Type 0 where
+  pub of : IsOf banks q
+  pub number_is : number q ≡ number p
+  pub numbers_are : numbers q ≡ numbers p
+  pub list : list_of q ≡ list_of p
+
+-- a port that holds no numbers, and has seen as much as p
 pub record IsNew (banks : Banks) (p q : Port) : Type 0 where
   pub of : IsOf banks q
   pub holds_none : held q ≡ []

@@ -1,9 +1,9 @@
-ghost use Rattle.std.specs.Prelude.{◌≡◌, ◌≢◌, ◌+◌, ◌%◌, ◌^◌, ◌<◌, [], length, IfOk};
+ghost use Rattle.std.specs.Prelude.{◌≡◌, ◌≢◌, ◌+◌, ◌%◌, ◌^◌, ◌<◌, [], ◌∷◌, ◌++◌, length, All, IfOk};
 
 use crate::port::Port;
 use crate::rule::{History, View};
 use atomic_table::Table;
-use std::alloc::Global;
+use std::alloc::{AllocError, Global};
 use vx_base::{Memory, WordList};
 
 /// Shared words. One word more stands behind them, which is no word of the banks, so that there is always one to step on.
@@ -24,11 +24,7 @@ impl Banks {
         ensures opening { IfOk result (λ r. opening_of r.0 ≡ words.now) }
         ensures port { IfOk result (λ r. IsOf r.0 r.1 × HasAll r.1 × (seen r.1 ≡ [])) }
     {
-        let mut row = Vec::with_capacity(alloc, words.len() + 1)?;
-        for word in words.items.iter() {
-            row.push_reserved(u64::from(*word));
-        }
-        row.push_reserved(0);
+        let row = row_of(alloc, words.as_slice())?;
         let (table, seat) = Table::of_words(alloc, row.as_slice(), words)?;
         Ok((
             Banks { table },
@@ -46,6 +42,20 @@ impl Banks {
     {
         (self.table.word_count() - 1) as u32
     }
+}
+
+// The words, and a 0 behind them.
+fn row_of(alloc: Global, words: &[u32]) -> Result<Vec<u64>, AllocError>
+    requires { length words.now < 2 ^ 32 }
+    ensures row { IfOk result (λ v. v.items ≡ words.now ++ 0 ∷ []) }
+    ensures small { All (λ w. w < 2 ^ 32) words.now }
+{
+    let mut row = Vec::with_capacity(alloc, words.len() + 1)?;
+    for word in words {
+        row.push_reserved(u64::from(*word));
+    }
+    row.push_reserved(0);
+    Ok(row)
 }
 
 /// The bank of a line, where so many banks take the lines in turn.

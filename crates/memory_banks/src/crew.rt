@@ -1,11 +1,15 @@
 //! Ports before and after the threads run: made, gathered, renewed, closed.
-ghost use Rattle.std.specs.Prelude.{◌≡◌, ◌≢◌, ℕ, ◌<◌, ◌≤◌, [], ◌∷◌, ◌++◌, All, IfOk, OnErr, OnOk, length, map, take, drop, slice_index_or};
+ghost use Rattle.std.specs.Prelude.{◌≡◌, ◌≢◌, ℕ, ◌^◌, ◌<◌, ◌≤◌, [], ◌∷◌, ◌++◌, All, IfOk, OnErr, OnOk, length, map, take, drop, slice_index, slice_index_or};
+ghost use Rattle.std.specs.Slots.{slots_items, slots_len, IsFull};
+ghost use mathlib.Core.Option.{some};
+ghost use lib.ListN.{get_elem?};
 ghost use mathlib.Core.List.{IsPrefix};
 ghost use Rattle.memory_banks.specs.Entries.{IsLegal, replay};
-ghost use Rattle.memory_banks.specs.Ports.{HasAll, IsNew, IsOf, IsRenewed, IsSame, KeptIn, held, held_set, number, numbers, opening_of, seen, union};
+ghost use Rattle.memory_banks.specs.Ports.{AreRenewed, HasAll, IsNew, IsOf, IsSame, KeptIn, StandsAs, held, held_set, number, numbers, opening_of, seen, union};
 
 use crate::banks::Banks;
 use crate::port::Port;
+use atomic_table::Closed;
 use std::alloc::Global;
 use vx_base::{ListOf, Memory, WordList};
 
@@ -59,7 +63,7 @@ fn hand_over_all(banks: &Banks, into: &mut Port, ports: &mut [Port])
     ensures numbers { numbers into.new ≡ union (numbers into.old) (map held_set ports.old) }
     ensures kept { KeptIn (numbers into.old) into.old into.new }
     ensures lists { All (λ p. KeptIn (held_set p) p into.new) ports.old }
-    ensures renewed { (k : ℕ) (d : Port) → k < length ports.old → IsRenewed banks.now (slice_index_or ports.old k d) (slice_index_or ports.new k d) }
+    ensures renewed { AreRenewed banks.now ports.old ports.new }
 {
     for at in 0..ports.len() {
         ports[at].hand_over(banks, into);
@@ -72,10 +76,55 @@ fn tell_all(banks: &Banks, from: &mut Port, ports: &mut [Port])
     requires others { All (λ p. IsOf banks.now p) ports.old }
     ensures same { IsSame banks.now from.old from.new × (numbers from.new ≡ numbers from.old) }
     ensures told { All (λ p. IsPrefix (seen from.old) (seen p)) ports.new }
-    ensures renewed { (k : ℕ) (d : Port) → k < length ports.old → IsRenewed banks.now (slice_index_or ports.old k d) (slice_index_or ports.new k d) }
+    ensures stand { (k : ℕ) (d : Port) → k < length ports.old → StandsAs banks.now (slice_index_or ports.old k d) (slice_index_or ports.new k d) }
 {
     for at in 0..ports.len() {
         from.tell(banks, &mut ports[at]);
+    }
+}
+
+// What `renew` does to the ports of a list.
+fn renew_all(banks: &Banks, into: &mut Port, ports: &mut [Port])
+    requires of { IsOf banks.now into.old }
+    requires others { All (λ p. IsOf banks.now p) ports.old }
+    ensures of { IsOf banks.now into.new }
+    ensures number { number into.new ≡ number into.old }
+    ensures numbers { numbers into.new ≡ union (numbers into.old) (map held_set ports.old) }
+    ensures kept { KeptIn (numbers into.old) into.old into.new }
+    ensures lists { All (λ p. KeptIn (held_set p) p into.new) ports.old }
+    ensures renewed { AreRenewed banks.now ports.old ports.new }
+    ensures told { All (λ p. IsPrefix (seen into.new) (seen p)) ports.new }
+{
+    hand_over_all(banks, into, ports);
+    tell_all(banks, into, ports);
+}
+
+/// `into` takes in every port of the list, and in its place stands again a port with its number and its list. Numbers that
+/// they held stay with `into`. All have then seen what each of them had seen.
+pub fn renew(banks: &Banks, into: &mut Port, ports: &mut PortList)
+    requires of { IsOf banks.now into.old }
+    requires others { All (λ p. IsOf banks.now p) ports.old }
+    requires first { All (λ p. number p ≢ 0) ports.old }
+    ensures of { IsOf banks.now into.new }
+    ensures number { number into.new ≡ number into.old }
+    ensures numbers { numbers into.new ≡ union (numbers into.old) (map held_set ports.old) }
+    ensures kept { KeptIn (numbers into.old) into.old into.new }
+    ensures lists { All (λ p. KeptIn (held_set p) p into.new) ports.old }
+    ensures renewed { AreRenewed banks.now ports.old ports.new }
+    ensures told { All (λ p. IsPrefix (seen into.new) (seen p)) ports.new }
+{
+    renew_all(banks, into, ports.items.as_mut_slice());
+}
+
+// Reads the words from the front.
+fn read_into(closed: &Closed<(), Global>, out: &mut [u32])
+    requires full { IsFull closed.now.words }
+    requires words { length out.old ≤ slots_len closed.now.words }
+    requires small { (k w : ℕ) → get_elem? (slots_items closed.now.words) k ≡ some w → w < 2 ^ 32 }
+    ensures { (k : ℕ) → k < length out.old → get_elem? (slots_items closed.now.words) k ≡ some (slice_index out.new k) }
+{
+    for at in 0..out.len() {
+        out[at] = closed.word(at) as u32;
     }
 }
 
@@ -94,8 +143,6 @@ pub fn close(banks: Banks, port: Port, out: &mut WordList)
         seat,
     } = port;
     let closed = table.close_with(seat);
-    for at in 0..out.items.len() {
-        out.items[at] = closed.word(at) as u32;
-    }
+    read_into(&closed, out.items.as_mut_slice());
     closed.free();
 }

@@ -16,12 +16,18 @@
 #![tactic(auto)]
 
 pub mod banks;
+pub mod bus;
 pub mod crew;
 pub mod entry;
+pub mod plain_bus;
 pub mod port;
+pub mod port_bus;
 pub mod rule;
 
 pub use banks::{Banks, bank_of};
-pub use crew::{PortList, close, gather, ports};
+pub use bus::Bus;
+pub use crew::{PortList, close, gather, ports, renew};
 pub use entry::{BusEntry, BusKind};
+pub use plain_bus::PlainBus;
 pub use port::Port;
+pub use port_bus::PortBus;

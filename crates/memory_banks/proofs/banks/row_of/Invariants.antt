@@ -1,6 +1,6 @@
 use Rattle.std.proofs.Common.{◌≡◌, ◌<◌, ◌≤◌, ◌+◌, length, take}
 use Rattle.std.specs.Vec.{vec_capacity}
-use Rattle.memory_banks.proofs.banks.Banks.of_words.Given as goal
+use Rattle.memory_banks.proofs.banks.row_of.Given as goal
 
 abbrev pub invariant-loop-word : goal.invariant-loop-word
 invariant-loop-word l = record {
