@@ -1,5 +1,5 @@
 -- Histories with one entry more.
-use Rattle.std.proofs.Common.{◌≡◌, ℕ, zero, suc, ◌+◌, ◌^◌, ◌<◌, ◌≤◌, List, [], ◌∷◌, ◌++◌, length, set, get_or, refl, ap, sym, ◌∙◌, arith, length-set, bit_and, bit_or}
+use Rattle.std.proofs.Common.{◌≡◌, ℕ, ◌^◌, ◌<◌, List, [], ◌∷◌, ◌++◌, length, get_or, refl, ◌∙◌, arith, length-set}
 use Rattle.std.proofs.lemmas.Nat.{or_lt, and_le_l}
 use Rattle.memory_banks.specs.declared.entry.BusKind.{BusKind}
 use Rattle.memory_banks.specs.declared.entry.BusKind.TheVariants.{Load, Store, FetchAnd, FetchOr}

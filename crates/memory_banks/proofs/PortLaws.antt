@@ -1,6 +1,6 @@
 -- What the steps ask and tell, for ports.
-use Rattle.std.proofs.Common.{◌≡◌, ℕ, ◌+◌, ◌^◌, ◌<◌, ◌≤◌, List, [], ◌∷◌, ◌++◌, length, map, refl, ap, sym, ◌∙◌, subst, arith, bit_or}
-use Rattle.std.specs.Int.{bit_at, trailing_zeros, w32}
+use Rattle.std.proofs.Common.{◌≡◌, ℕ, ◌^◌, ◌<◌, List, [], ◌∷◌, ◌++◌, length, map, get_or, ap, sym, ◌∙◌, subst, arith, bit_or}
+use Rattle.std.specs.Int.{trailing_zeros, w32}
 use Rattle.std.proofs.lemmas.List.{append-nil, map_push}
 use Rattle.std.proofs.lemmas.List.Sums.{fold_push}
 use mathlib.Core.List.{IsPrefix}
@@ -12,7 +12,7 @@ use Rattle.memory_banks.specs.declared.port.Port.{Port}
 use Rattle.memory_banks.specs.declared.banks.Banks.{Banks}
 use Rattle.memory_banks.specs.Entries.{answer_to, changed, entries_of, Adds}
 use Rattle.memory_banks.specs.Rule.{Among, Kept, Makes, Looks, entry_by, both, giver, given, handed, held_of, keeper, least_of, note, one_of, teller, without}
-use Rattle.memory_banks.specs.Ports.{IsOf, Steps, KeptIn, held, held_set, number, numbers, seen, list_of, opening_of, union}
+use Rattle.memory_banks.specs.Ports.{AreRenewed, IsOf, Steps, StandsAs, KeptIn, held, in_order, held_set, number, numbers, seen, opening_of, union}
 use Rattle.memory_banks.proofs.Prefixes.{entries-append, entries-own, prefix_trans}
 use Rattle.memory_banks.proofs.Sets.{among_below, without_below}
 use Rattle.memory_banks.proofs.SetOrder.{least_below, some_in_order}
@@ -136,3 +136,28 @@ KeptIn-trans set p q r first second = record {
 pub union-push : {A : Type 0} (f : A → ℕ) (set : ℕ) (xs : List A) (x : A) (sum : ℕ) → sum ≡ union set (map f xs) → bit_or sum (f x) ≡ union set (map f (xs ++ x ∷ []))
 union-push f set xs x sum is =
     ap (λ (n : ℕ). bit_or n (f x)) is ∙ sym (ap (union set) (map_push f xs x) ∙ fold_push bit_or set (map f xs) (f x))
+
+-- what was kept in a port that then stays
+pub KeptIn-same : (set : ℕ) (p q r : Port) → KeptIn set p q → seen r ≡ seen q → numbers r ≡ numbers q → KeptIn set p r
+KeptIn-same set p q r kept same same' = record {
+  has = λ k among. subst (λ (n : ℕ). Among n k) (sym same') (kept.has k among);
+  begins = subst (λ (es : List BusEntry). IsPrefix (seen p) es) (sym same) kept.begins;
+  lists = λ k among. ap (entries_of k) same ∙ kept.lists k among;
+}
+
+-- renewed ports that then stand
+pub AreRenewed-stand : (banks : Banks) (ps qs rs : List Port) → AreRenewed banks ps qs → length rs ≡ length qs
+    → ((k : ℕ) (d : Port) → k < length qs → StandsAs banks (get_or qs k d) (get_or rs k d)) → AreRenewed banks ps rs
+AreRenewed-stand banks ps qs rs renewed same stand = record {
+  count = same ∙ renewed.count;
+  each = λ k d within.
+    let n = renewed.count in
+    let first = renewed.each k d within in
+    let then = stand k d (omega arith) in
+    record {
+      of = then.of;
+      number_is = then.number_is ∙ first.number_is;
+      holds_none = (λ i. in_order (without (then.numbers_are i) (then.number_is i))) ∙ first.holds_none;
+      list = then.list ∙ first.list;
+    };
+}

@@ -1,9 +1,7 @@
 -- Views that are cut, joined and closed keep the rule.
-use Rattle.std.proofs.Common.{◌≡◌, ℕ, zero, suc, ◌+◌, ◌^◌, ◌<◌, ◌≤◌, ⊎_elim, inl, inr, List, [], ◌∷◌, ◌++◌, length, set, get_or, refl, ap, sym, ◌∙◌, subst, All, arith, length-append, bit_and, bit_or}
+use Rattle.std.proofs.Common.{◌≡◌, ℕ, zero, suc, ◌^◌, ◌<◌, ⊎_elim, inl, inr, List, [], ◌∷◌, ◌++◌, length, set, refl, ap, sym, ◌∙◌, subst, All, arith, length-append}
 use Rattle.std.proofs.lemmas.List.{append-nil}
 use Rattle.std.proofs.Math.Seq.{get_or-append_seam}
-use Rattle.std.proofs.lemmas.List.Elements.{All-head, All-append}
-use mathlib.Core.List.{IsPrefix}
 use mathlib.Core.Option.{some, some-injective, some-ne-none}
 use lib.ListN.{get_elem?}
 use Rattle.atomic_table.specs.Table.{Splits, Joins, Final, Seen, opening}
@@ -11,7 +9,7 @@ use Rattle.atomic_table.proofs.Lists.{at_set, set_else}
 use Rattle.memory_banks.specs.declared.entry.BusEntry.{BusEntry}
 use Rattle.memory_banks.specs.declared.rule.View.{View}
 use Rattle.memory_banks.specs.Entries.{entries_of, replay, IsLegal}
-use Rattle.memory_banks.specs.Rule.{Among, Knows, Has, Fits, Kept, seat_of, one_of, without, held_of, least_of, giver, given, keeper, handed, teller, note, both, nothing, all_numbers, first_view}
+use Rattle.memory_banks.specs.Rule.{Among, Has, Fits, Kept, seat_of, one_of, without, held_of, least_of, giver, given, keeper, handed, teller, note, both, nothing, all_numbers, first_view}
 use Rattle.memory_banks.proofs.Prefixes.{none_behind, own_entry, entries-append}
 use Rattle.memory_banks.proofs.Sets.{none_among, among_below, only_one, without_among, not_without, least_among, among_all}
 use Rattle.memory_banks.proofs.Steps.{Shared}

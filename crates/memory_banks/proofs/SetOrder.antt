@@ -1,8 +1,8 @@
 -- The numbers of a set in order, and what is left without the least.
-use Rattle.std.proofs.Common.{◌≡◌, ℕ, zero, suc, ◌+◌, ◌*◌, ◌%◌, ◌^◌, ◌<◌, ◌≤◌, ◌≢◌, eqb, Bool, true, false, cond, inl, inr, List, [], ◌∷◌, length, ap, sym, ◌∙◌, subst, refl, arith, eq-eqb, ne_eqb, filter, bit_and, bit_or}
-use Rattle.std.specs.Int.{bit_at, bit_not, w32, trailing_zeros}
+use Rattle.std.proofs.Common.{◌≡◌, ℕ, zero, suc, ◌+◌, ◌^◌, ◌<◌, ◌≤◌, ◌≢◌, eqb, Bool, true, false, cond, inl, inr, [], ◌∷◌, length, ap, sym, ◌∙◌, subst, refl, arith, eq-eqb, ne_eqb, filter, bit_or}
+use Rattle.std.specs.Int.{bit_at, w32, trailing_zeros}
 use Rattle.std.specs.List.{range_with_len}
-use Rattle.std.proofs.lemmas.Bool.{cases_lt, cases_eq}
+use Rattle.std.proofs.lemmas.Bool.{cases_eq}
 use Rattle.std.proofs.lemmas.Nat.{or_lt}
 use Rattle.std.proofs.lemmas.Nat.Bits.{bit_at-lt, bit_at_or, bit_at_clear_same, bit_at_clear_other, bit_at-trailing_zeros, same_from_bits_below}
 use Rattle.memory_banks.specs.Rule.{Among, one_of, without}

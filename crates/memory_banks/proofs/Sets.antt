@@ -1,9 +1,9 @@
 -- Sets of port numbers, as bits.
-use Rattle.std.proofs.Common.{◌≡◌, ℕ, ◌+◌, ◌*◌, ◌%◌, ◌^◌, ◌<◌, ◌≤◌, ◌≢◌, ◌⊎◌, inl, inr, ap, sym, ◌∙◌, subst, refl, arith, bit_and, bit_or}
+use Rattle.std.proofs.Common.{◌≡◌, ℕ, ◌^◌, ◌<◌, ◌≢◌, ◌⊎◌, inl, inr, ap, ◌∙◌, arith, bit_or}
 use Rattle.std.specs.Int.{bit_at, bit_not, w32, trailing_zeros}
 use Rattle.std.proofs.lemmas.Bool.{cases_lt, cases_eq}
-use Rattle.std.proofs.lemmas.Nat.{pow_below, and_le_l, or_lt}
-use Rattle.std.proofs.lemmas.Nat.Bits.{bit_at-lt, bit_at-zero, bit_at_and, bit_at_or, bit_at-pow_same, bit_at-pow_other, bit_at_above, bit_at_clear_same, bit_at_clear_other, bit_at-trailing_zeros, bit_at_ones, same_from_bits_below}
+use Rattle.std.proofs.lemmas.Nat.{pow_below, and_le_l}
+use Rattle.std.proofs.lemmas.Nat.Bits.{bit_at-lt, bit_at-zero, bit_at_and, bit_at_or, bit_at-pow_same, bit_at-pow_other, bit_at_above, bit_at_clear_same, bit_at_clear_other, bit_at-trailing_zeros, bit_at_ones}
 use Rattle.memory_banks.specs.Rule.{Among, one_of, without}
 
 pub none_among : (k : ℕ) → ¬ (Among 0 k)

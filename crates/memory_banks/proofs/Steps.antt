@@ -1,22 +1,20 @@
 -- Each step on a word keeps the rule, and adds one entry; a look adds none.
-use Rattle.std.proofs.Common.{◌≡◌, ℕ, zero, suc, ◌+◌, ◌^◌, ◌<◌, ◌≤◌, ⊎_elim, inl, inr, List, [], ◌∷◌, ◌++◌, length, set, get_or, refl, ap, sym, ◌∙◌, subst, All, arith, append_assoc, bit_and, bit_or}
+use Rattle.std.proofs.Common.{◌≡◌, ℕ, ◌^◌, ◌<◌, ⊎_elim, inl, List, [], ◌∷◌, ◌++◌, length, set, get_or, refl, ap, sym, ◌∙◌, subst, All, arith, bit_or}
 use Rattle.std.proofs.lemmas.List.{set-append_left, get_or_append_left, set-get_or}
 use Rattle.std.proofs.lemmas.List.Elements.{All-push, All-set}
-use mathlib.Core.List.{IsPrefix}
 use mathlib.Core.Option.{some}
 use lib.ListN.{get_elem?}
-use Rattle.atomic_table.specs.Table.{State, Me, keeps, Allows, Final, Seen}
+use Rattle.atomic_table.specs.Table.{State, Me, keeps, Allows}
 use Rattle.atomic_table.proofs.Lists.{at_set}
 use Rattle.memory_banks.specs.declared.entry.BusKind.{BusKind}
-use Rattle.memory_banks.specs.declared.entry.BusKind.TheVariants.{Load, Store, FetchAnd, FetchOr}
 use Rattle.memory_banks.specs.declared.entry.BusEntry.{BusEntry}
 use Rattle.memory_banks.specs.declared.rule.View.{View}
-use Rattle.memory_banks.specs.Entries.{after, answer_to, changed, entries_of, replay, Adds, IsAnswered, IsLegal}
-use Rattle.memory_banks.specs.Rule.{Among, Knows, Has, Fits, Kept, Makes, Looks, with_seen, entry_by}
+use Rattle.memory_banks.specs.Entries.{answer_to, changed, entries_of, replay, IsAnswered}
+use Rattle.memory_banks.specs.Rule.{Among, Has, Fits, Kept, Makes, Looks, with_seen, entry_by}
 use Rattle.memory_banks.proofs.Prefixes.{prefix_self, none_behind}
 use Rattle.memory_banks.proofs.Histories.{replay-append, length-replay, IsLegal-push, changed-lt}
-use Rattle.memory_banks.proofs.Sets.{none_among, among_below, among_left, among_right, either_among}
-use Rattle.memory_banks.proofs.Views.{Knows-all, Knows-none, Knows-nothing, Fits-longer, apart_set}
+use Rattle.memory_banks.proofs.Sets.{none_among, among_below, either_among}
+use Rattle.memory_banks.proofs.Views.{Knows-all, Knows-nothing, Fits-longer, apart_set}
 
 abbrev pub Shared : Type 0
 Shared = State (Unit {0}) View

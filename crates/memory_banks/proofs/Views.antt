@@ -1,12 +1,11 @@
 -- What one view knows of a history, and that no number stands in two views.
-use Rattle.std.proofs.Common.{◌≡◌, ℕ, zero, suc, ◌+◌, ◌<◌, ◌≤◌, ◌⊎◌, ⊎_elim, inl, inr, List, [], ◌∷◌, ◌++◌, length, set, refl, ap, sym, ◌∙◌, subst, arith, length-set}
+use Rattle.std.proofs.Common.{◌≡◌, ℕ, zero, suc, ◌<◌, ◌⊎◌, ⊎_elim, inl, inr, List, [], ◌∷◌, ◌++◌, length, set, refl, sym, ◌∙◌, subst, arith}
 use mathlib.Core.List.{IsPrefix}
 use mathlib.Core.Option.{some, some-injective, some-ne-none}
 use lib.ListN.{get_elem?}
 use Rattle.atomic_table.proofs.Lists.{at_set}
 use Rattle.memory_banks.specs.declared.entry.BusEntry.{BusEntry}
 use Rattle.memory_banks.specs.declared.rule.View.{View}
-use Rattle.memory_banks.specs.Entries.{entries_of}
 use Rattle.memory_banks.specs.Rule.{Among, Knows, Has, Fits}
 use Rattle.memory_banks.proofs.Prefixes.{prefix_self, prefix_longer, entries-other}
 use Rattle.memory_banks.proofs.Sets.{none_among}

@@ -1,6 +1,5 @@
 -- Histories of shared words: what each entry does, and which histories are legal.
 use Rattle.std.specs.Prelude.{◌≡◌, ℕ, ◌==◌, List, [], ◌∷◌, ◌++◌, filter, slice_index, slice_set, bit_and, bit_or}
-use mathlib.Core.List.{IsPrefix}
 use Rattle.memory_banks.specs.declared.entry.BusKind.{BusKind}
 use Rattle.memory_banks.specs.declared.entry.BusKind.TheVariants.{Load, Store, FetchAnd, FetchOr}
 use Rattle.memory_banks.specs.declared.entry.BusEntry.{BusEntry}

@@ -1,10 +1,10 @@
-use Rattle.std.proofs.Common.{rules, ◌≡◌, ◌<◌, ◌≤◌, ◌+◌, ◌^◌, ℕ, [], ◌∷◌, ◌++◌, All, length, ◌-◌, List, arith, sym, subst, ap, ◌∙◌, refl}
+use Rattle.std.proofs.Common.{rules, ◌≡◌, All, List, sym, subst, ◌∙◌}
 use Rattle.std.proofs.lemmas.List.{map-id}
 use Rattle.std.proofs.lemmas.List.Elements.{All-push, All-weaker}
 use Rattle.std.proofs.lemmas.Iterator.Consumers.{YieldsList-end}
 use Rattle.std.proofs.lemmas.Iterator.Adapters.{YieldsList-from_vec}
 use Rattle.memory_banks.specs.declared.port.Port.{Port}
-use Rattle.memory_banks.specs.Ports.{KeptIn, numbers, union}
+use Rattle.memory_banks.specs.Ports.{KeptIn, numbers}
 use Rattle.memory_banks.proofs.PortLaws.{KeptIn-trans, union-push}
 use Rattle.memory_banks.proofs.crew.gather.Goals as goal
 
@@ -27,6 +27,6 @@ loop-port-preserved c =
 
 pub returns-clause-lists : goal.returns-clause-lists
 returns-clause-lists c =
-    let end = YieldsList-end (YieldsList-from_vec c.args.from (cc) (cc)) c.loop-port.yielded _ c.loop-port.yielded_by _ _ c.in-None.is c.next.ensures.steps in
+    let end = YieldsList-end (YieldsList-from_vec c.args.from (cc) (cc)) c.loop-port.yielded c.loop-port.port-iterator c.loop-port.yielded_by c.next.result c.next.new.self c.in-None.is c.next.ensures.steps in
     let all : c.loop-port.yielded ≡ c.args.from = sym (map-id c.loop-port.yielded) ∙ end.0 in
     subst (λ (ps : List Port). All (λ p. KeptIn (numbers p) p c.loop-port.into) ps) all c.loop-port.invariant.lists

@@ -1,4 +1,4 @@
-use Rattle.std.proofs.Common.{◌≡◌, ◌<◌, ◌≤◌, ◌+◌, ℕ, [], ◌∷◌, All, length, map}
+use Rattle.std.proofs.Common.{◌≡◌, All, map}
 use Rattle.memory_banks.specs.Ports.{IsOf, KeptIn, number, numbers, union}
 use Rattle.memory_banks.proofs.crew.gather.Given as goal
 

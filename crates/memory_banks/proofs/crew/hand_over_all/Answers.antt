@@ -1,4 +1,4 @@
-use Rattle.std.proofs.Common.{rules, get_or, ◌≡◌, ◌<◌, ◌≤◌, ◌+◌, ◌^◌, ℕ, [], ◌∷◌, ◌++◌, All, length, map, take, drop, ◌-◌, List, arith, sym, subst, ap, ◌∙◌, refl}
+use Rattle.std.proofs.Common.{get_or, ◌≡◌, ◌<◌, All, length, map, take, List, arith, sym, subst, ap, ◌∙◌}
 use Rattle.std.proofs.lemmas.List.{take_all}
 use Rattle.std.proofs.lemmas.List.Elements.{All-push, All-weaker}
 use Rattle.memory_banks.specs.declared.port.Port.{Port}

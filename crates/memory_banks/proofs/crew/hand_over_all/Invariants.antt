@@ -1,4 +1,4 @@
-use Rattle.std.proofs.Common.{◌≡◌, ◌<◌, ◌≤◌, ◌+◌, ℕ, [], ◌∷◌, All, length, map, take, get_or}
+use Rattle.std.proofs.Common.{◌≡◌, ◌<◌, ◌≤◌, ℕ, All, map, take, get_or}
 use Rattle.memory_banks.specs.declared.port.Port.{Port}
 use Rattle.memory_banks.specs.Ports.{IsOf, IsRenewed, KeptIn, held_set, number, numbers, union}
 use Rattle.memory_banks.proofs.crew.hand_over_all.Given as goal

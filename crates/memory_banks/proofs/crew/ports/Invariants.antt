@@ -1,6 +1,6 @@
-use Rattle.std.proofs.Common.{◌≡◌, ◌<◌, ◌≤◌, ◌+◌, ℕ, [], ◌∷◌, All, length, map, take, drop}
+use Rattle.std.proofs.Common.{◌≡◌, ◌≤◌, All, length, map, take, drop}
 use Rattle.std.specs.Vec.{vec_capacity}
-use Rattle.memory_banks.specs.Ports.{IsNew, IsOf, IsSame, held, number, numbers, union}
+use Rattle.memory_banks.specs.Ports.{IsNew, IsSame, held, number, numbers, union}
 use Rattle.memory_banks.proofs.crew.ports.Given as goal
 
 abbrev pub invariant-loop-made : goal.invariant-loop-made

@@ -1,9 +1,9 @@
-use Rattle.std.proofs.Common.{rules, get_or, ◌≡◌, ◌<◌, ◌≤◌, ◌+◌, ◌^◌, ℕ, [], ◌∷◌, ◌++◌, All, length, map, take, drop, ◌-◌, List, arith, sym, subst, ap, ◌∙◌, refl}
+use Rattle.std.proofs.Common.{get_or, ◌≡◌, ◌<◌, ℕ, length, List, arith, subst, ap, ◌∙◌}
 use mathlib.Core.List.{IsPrefix}
 use Rattle.memory_banks.specs.declared.entry.BusEntry.{BusEntry}
 use Rattle.memory_banks.specs.declared.port.Port.{Port}
 use Rattle.memory_banks.specs.Entries.{entries_of}
-use Rattle.memory_banks.specs.Ports.{StandsAs, number, numbers, seen}
+use Rattle.memory_banks.specs.Ports.{StandsAs, number, seen}
 use Rattle.memory_banks.proofs.Rows.{read_same, row_more, row_rest}
 use Rattle.memory_banks.proofs.crew.tell_all.Goals as goal
 

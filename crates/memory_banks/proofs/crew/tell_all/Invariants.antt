@@ -1,4 +1,4 @@
-use Rattle.std.proofs.Common.{◌≡◌, ◌<◌, ◌≤◌, ◌+◌, ℕ, [], ◌∷◌, All, length, map, take, get_or}
+use Rattle.std.proofs.Common.{◌≡◌, ◌<◌, ◌≤◌, ℕ, get_or}
 use mathlib.Core.List.{IsPrefix}
 use Rattle.memory_banks.specs.declared.port.Port.{Port}
 use Rattle.memory_banks.specs.Ports.{IsSame, StandsAs, numbers, seen}

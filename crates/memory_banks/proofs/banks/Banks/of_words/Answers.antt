@@ -1,4 +1,4 @@
-use Rattle.std.proofs.Common.{rules, ◌≡◌, ◌<◌, ◌≤◌, ◌+◌, ◌^◌, ℕ, [], ◌∷◌, ◌++◌, All, length, ◌-◌, List, arith, sym, subst, ap, ◌∙◌, refl}
+use Rattle.std.proofs.Common.{rules}
 use Rattle.memory_banks.proofs.Seats.{opens}
 use Rattle.memory_banks.proofs.banks.Banks.of_words.Goals as goal
 

@@ -1,6 +1,6 @@
-use Rattle.std.proofs.Common.{rules, ◌≡◌, ◌<◌, ◌≤◌, ◌+◌, ◌^◌, ℕ, [], ◌∷◌, ◌++◌, All, length, ◌-◌, List, arith, sym, subst, ap, ◌∙◌, refl}
+use Rattle.std.proofs.Common.{◌<◌, ◌^◌, ℕ, sym, subst}
 use Rattle.memory_banks.specs.declared.entry.BusKind.TheVariants.{FetchOr}
-use Rattle.memory_banks.proofs.PortLaws.{may_step, stepped}
+use Rattle.memory_banks.proofs.PortLaws.{may_step}
 use Rattle.memory_banks.proofs.port.Port.fetch_or.Goals as goal
 
 pub fetch_or-requires : goal.fetch_or-requires

@@ -1,4 +1,4 @@
-use Rattle.std.proofs.Common.{rules, ◌≡◌, ◌<◌, ◌≤◌, ◌+◌, ◌^◌, ℕ, [], ◌∷◌, ◌++◌, All, length, ◌-◌, List, arith, sym, subst, ap, ◌∙◌, refl}
+use Rattle.std.proofs.Common.{ℕ, sym, subst}
 use Rattle.memory_banks.specs.Rule.{Among}
 use Rattle.memory_banks.proofs.Sets.{among_right}
 use Rattle.memory_banks.proofs.port.Port.gather.Goals as goal

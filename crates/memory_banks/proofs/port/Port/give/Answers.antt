@@ -1,4 +1,4 @@
-use Rattle.std.proofs.Common.{rules, ◌≡◌, ◌<◌, ◌≤◌, ◌+◌, ◌^◌, ℕ, [], ◌∷◌, ◌++◌, All, length, ◌-◌, List, arith, sym, subst, ap, ◌∙◌, refl}
+use Rattle.std.proofs.Common.{arith, ap, ◌∙◌}
 use Rattle.memory_banks.specs.declared.rule.View.{View}
 use Rattle.memory_banks.proofs.Sets.{among_one, one_below, without_below}
 use Rattle.memory_banks.proofs.SetOrder.{alone_without, back, in_order-least, own_stays}

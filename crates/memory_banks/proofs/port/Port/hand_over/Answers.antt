@@ -1,6 +1,6 @@
-use Rattle.std.proofs.Common.{rules, ◌≡◌, ◌<◌, ◌≤◌, ◌+◌, ◌^◌, ℕ, [], ◌∷◌, ◌++◌, All, length, ◌-◌, List, arith, sym, subst, ap, ◌∙◌, refl}
+use Rattle.std.proofs.Common.{◌≡◌, ℕ, List, arith, sym, subst, ap, ◌∙◌, refl}
 use Rattle.memory_banks.specs.declared.rule.View.{View}
-use Rattle.memory_banks.proofs.Sets.{among_one, one_below, without_below}
+use Rattle.memory_banks.proofs.Sets.{among_one, one_below}
 use Rattle.memory_banks.proofs.SetOrder.{alone_without}
 use Rattle.memory_banks.proofs.PortLaws.{may_hand_over, number_below}
 use Rattle.memory_banks.proofs.Steps.{Seated}

@@ -1,6 +1,6 @@
-use Rattle.std.proofs.Common.{rules, ◌≡◌, ◌<◌, ◌≤◌, ◌+◌, ◌^◌, ℕ, [], ◌∷◌, ◌++◌, All, length, ◌-◌, List, arith, sym, subst, ap, ◌∙◌, refl}
+use Rattle.std.proofs.Common.{arith}
 use Rattle.memory_banks.specs.declared.entry.BusKind.TheVariants.{Load}
-use Rattle.memory_banks.proofs.PortLaws.{may_step, stepped}
+use Rattle.memory_banks.proofs.PortLaws.{may_step}
 use Rattle.memory_banks.proofs.port.Port.load.Goals as goal
 
 pub load-requires : goal.load-requires

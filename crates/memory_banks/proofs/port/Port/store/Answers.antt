@@ -1,6 +1,6 @@
-use Rattle.std.proofs.Common.{rules, ◌≡◌, ◌<◌, ◌≤◌, ◌+◌, ◌^◌, ℕ, [], ◌∷◌, ◌++◌, All, length, ◌-◌, List, arith, sym, subst, ap, ◌∙◌, refl}
+use Rattle.std.proofs.Common.{◌<◌, ◌^◌, ℕ, sym, subst}
 use Rattle.memory_banks.specs.declared.entry.BusKind.TheVariants.{Store}
-use Rattle.memory_banks.proofs.PortLaws.{may_step, stepped}
+use Rattle.memory_banks.proofs.PortLaws.{may_step}
 use Rattle.memory_banks.proofs.port.Port.store.Goals as goal
 
 pub store-requires : goal.store-requires

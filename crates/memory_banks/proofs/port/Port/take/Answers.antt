@@ -1,8 +1,7 @@
-use Rattle.std.proofs.Common.{rules, bit_or, ◌≡◌, ◌<◌, ◌≤◌, ◌+◌, ◌^◌, ℕ, [], ◌∷◌, ◌++◌, All, length, ◌-◌, List, arith, sym, subst, ap, ◌∙◌, refl}
+use Rattle.std.proofs.Common.{bit_or, ℕ, arith, sym, subst, ap, ◌∙◌}
 use Rattle.std.proofs.lemmas.Nat.{or_lt}
-use Rattle.atomic_table.specs.Table.{Me}
 use Rattle.memory_banks.specs.declared.rule.View.{View}
-use Rattle.memory_banks.specs.Rule.{Among, Looks, both}
+use Rattle.memory_banks.specs.Rule.{Among}
 use Rattle.memory_banks.proofs.Sets.{among_left}
 use Rattle.memory_banks.proofs.PortLaws.{looked, own_among}
 use Rattle.memory_banks.proofs.Steps.{looks, Seated}

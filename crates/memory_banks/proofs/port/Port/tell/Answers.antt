@@ -1,4 +1,4 @@
-use Rattle.std.proofs.Common.{rules, ◌≡◌, ◌<◌, ◌≤◌, ◌+◌, ◌^◌, ℕ, [], ◌∷◌, ◌++◌, All, length, ◌-◌, List, arith, sym, subst, ap, ◌∙◌, refl}
+use Rattle.std.proofs.Common.{◌∙◌}
 use Rattle.memory_banks.proofs.PortLaws.{may_note}
 use Rattle.std.specs.Int.Bits.{or_zero_r}
 use Rattle.memory_banks.proofs.port.Port.tell.Goals as goal
