@@ -7,3 +7,4 @@ pub mod Steps
 pub mod Seats
 pub mod Rows
 pub mod PortLaws
+pub mod ReadBack

@@ -30,7 +30,7 @@ few_numbers p = subst (λ (n : ℕ). n < 2 ^ 16) (sym p.numbers_are) p.few
 pub may_step : (banks : Banks) (p : Port) (kind : BusKind) (i operand : ℕ) → IsOf banks p → i < length (opening_of banks) → operand < 2 ^ 32
     → (p.seat.table_id ≡ banks.table.shared.table_id) × (i < banks.table.shared.table_id.words)
     × Allows (Kept banks.table.shared.key) banks.table.shared.table_id.slots p.seat.id p.seat.me i (λ n. changed kind n operand)
-        (λ found after. Makes p.seat.me.0 (entry_by p.seat.me.0 kind i operand (answer_to kind found)) after.0 × (after.1 ≡ p.seat.me.1) × (found < 2 ^ 32))
+    (λ found after. Makes p.seat.me.0 (entry_by p.seat.me.0 kind i operand (answer_to kind found)) after.0 × (after.1 ≡ p.seat.me.1) × (found < 2 ^ 32))
 may_step banks p kind i operand of within fits = (
   of.table,
   omega (arith, banks.one_more),
@@ -47,7 +47,7 @@ longer_list opening before e now adds =
     ap (entries_of e.port) adds.all
     ∙ (entries-own (before ++ adds.between) e
     ∙ ap (λ (es : List BusEntry). es ++ e ∷ [])
-        (entries-append e.port before adds.between ∙ (ap (λ (es : List BusEntry). entries_of e.port before ++ es) adds.none_own ∙ append-nil (entries_of e.port before))))
+    (entries-append e.port before adds.between ∙ (ap (λ (es : List BusEntry). entries_of e.port before ++ es) adds.none_own ∙ append-nil (entries_of e.port before))))
 
 -- what a step tells a port
 pub stepped : (banks : Banks) (p q : Port) (kind : BusKind) (i operand answer : ℕ) → IsOf banks p → q.number ≡ p.number → q.numbers ≡ p.numbers
@@ -56,7 +56,7 @@ pub stepped : (banks : Banks) (p q : Port) (kind : BusKind) (i operand answer : 
 stepped banks p q kind i operand answer of same_number same_numbers same_table makes =
     let e : BusEntry = entry_of p kind i operand answer in
     let adds' : Adds p.seat.me.0.opening (seen p) e (seen q) =
-        subst (λ (n : ℕ). Adds p.seat.me.0.opening (seen p) (record { port = n; kind = kind; word = i; operand = operand; answer = answer }) (seen q)) p.number_is makes.adds in
+    subst (λ (n : ℕ). Adds p.seat.me.0.opening (seen p) (record { port = n; kind = kind; word = i; operand = operand; answer = answer }) (seen q)) p.number_is makes.adds in
     let adds : Adds (opening_of banks) (seen p) e (seen q) = subst (λ (ws : List ℕ). Adds ws (seen p) e (seen q)) of.opening_is adds' in
     record {
       of = record { table = same_table ∙ of.table; opening_is = ap (λ (v : View). v.opening) makes.rest ∙ of.opening_is };
@@ -108,8 +108,8 @@ module _ (p : Port) (longer : 0 < length (held p)) where
     of.table,
     omega (arith, banks.one_more),
     gives banks.table.shared.key p.seat.id p.seat.me.0 (few_numbers p)
-      (subst (λ (n : ℕ). 0 < n) (sym (held_is p)) more)
-      (subst (λ (n : ℕ). n < 2 ^ 16) (sym (held_is p)) (without_below p.numbers p.number p.few)),
+        (subst (λ (n : ℕ). 0 < n) (sym (held_is p)) more)
+        (subst (λ (n : ℕ). n < 2 ^ 16) (sym (held_is p)) (without_below p.numbers p.number p.few)),
   )
 
 pub may_hand_over : (banks : Banks) (p : Port) → IsOf banks p
@@ -151,13 +151,13 @@ pub AreRenewed-stand : (banks : Banks) (ps qs rs : List Port) → AreRenewed ban
 AreRenewed-stand banks ps qs rs renewed same stand = record {
   count = same ∙ renewed.count;
   each = λ k d within.
-    let n = renewed.count in
-    let first = renewed.each k d within in
-    let then = stand k d (omega arith) in
-    record {
-      of = then.of;
-      number_is = then.number_is ∙ first.number_is;
-      holds_none = (λ i. in_order (without (then.numbers_are i) (then.number_is i))) ∙ first.holds_none;
-      list = then.list ∙ first.list;
-    };
+      let n = renewed.count in
+      let first = renewed.each k d within in
+      let then = stand k d (omega arith) in
+      record {
+        of = then.of;
+        number_is = then.number_is ∙ first.number_is;
+        holds_none = (λ i. in_order (without (then.numbers_are i) (then.number_is i))) ∙ first.holds_none;
+        list = then.list ∙ first.list;
+      };
 }

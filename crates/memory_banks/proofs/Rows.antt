@@ -25,9 +25,9 @@ module _ {A : Type 0} (first now : List A) (at : ℕ) (x y : A) (within : at < l
   row_more R done here k d below = ⊎_elim
       (λ before. subst (R (get_or first k d)) (sym (get_or-set_other now at k y d (omega arith))) (done k d before))
       (λ last.
-        let same : at ≡ k = omega arith in
-        let P : ℕ → Type 0 = λ j. R (get_or first j d) (get_or (set now at y) j d) in
-        subst P same (subst (λ (z : A × A). R z.0 z.1) (λ i. (sym (first_is d) i, sym (get_or-set_same now at y d within) i)) here))
+      let same : at ≡ k = omega arith in
+      let P : ℕ → Type 0 = λ j. R (get_or first j d) (get_or (set now at y) j d) in
+      subst P same (subst (λ (z : A × A). R z.0 z.1) (λ i. (sym (first_is d) i, sym (get_or-set_same now at y d within) i)) here))
       (cases_lt k at)
 
   pub row_rest : (k : ℕ) (d : A) → at + 1 ≤ k → get_or (set now at y) k d ≡ get_or first k d

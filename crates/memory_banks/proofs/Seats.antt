@@ -40,18 +40,18 @@ cuts opening id v a b left right lefts rights parts s k at =
       small = k.small;
       ports = k.ports;
       fits = λ j u there. ⊎_elim
-        (λ old. ⊎_elim
+          (λ old. ⊎_elim
           (λ same. subst (Fits opening k.log) same.1 (Fits-fewer opening k.log v a left lefts fits))
           (λ other. k.fits j u other.1)
           (at_set s.views id j l u old.1))
-        (λ new. subst (Fits opening k.log) new.1 (Fits-fewer opening k.log v b right rights fits))
-        (at_end (set s.views id l) r u j there);
+          (λ new. subst (Fits opening k.log) new.1 (Fits-fewer opening k.log v b right rights fits))
+          (at_end (set s.views id l) r u j there);
       apart = apart_split s.views id v l r at (fewer_has v a left lefts) (fewer_has v b right rights)
-        (λ j has has'. ⊎_elim
+          (λ j has has'. ⊎_elim
           (λ among. ⊎_elim (λ among'. parts j among among') (λ among'. none_among j among') has')
           (λ among. none_among j among)
           has)
-        k.apart;
+          k.apart;
     }
 
 -- a port gives the least number that it holds
@@ -60,18 +60,18 @@ gives opening id v few some_held few_held =
     let least = least_among (held_of v) some_held (omega arith) in
     let below : least_of v < 16 = among_below (held_of v) (least_of v) few_held least in
     cuts opening id v v.number (least_of v) (without v.numbers (least_of v)) (one_of (least_of v))
-      (λ j among. without_among v.numbers (least_of v) j among)
-      (λ j among. subst (Among v.numbers) (sym (only_one (least_of v) j (omega arith) among)) (without_among v.numbers v.number (least_of v) least))
-      (λ j among among'. not_without v.numbers (least_of v) (omega arith) (subst (Among (without v.numbers (least_of v))) (only_one (least_of v) j (omega arith) among') among))
+    (λ j among. without_among v.numbers (least_of v) j among)
+    (λ j among. subst (Among v.numbers) (sym (only_one (least_of v) j (omega arith) among)) (without_among v.numbers v.number (least_of v) least))
+    (λ j among among'. not_without v.numbers (least_of v) (omega arith) (subst (Among (without v.numbers (least_of v))) (only_one (least_of v) j (omega arith) among') among))
 
 -- a port keeps its own number alone
 pub hands_over : (opening : List ℕ) (id : ℕ) (v : View) → v.numbers < 2 ^ 16 → Among v.numbers v.number → Splits (Kept opening) id v (keeper v) (handed v)
 hands_over opening id v few own =
     let below : v.number < 16 = among_below v.numbers v.number few own in
     cuts opening id v v.number v.number (one_of v.number) (held_of v)
-      (λ j among. subst (Among v.numbers) (sym (only_one v.number j (omega arith) among)) own)
-      (λ j among. without_among v.numbers v.number j among)
-      (λ j among among'. not_without v.numbers v.number (omega arith) (subst (Among (held_of v)) (only_one v.number j (omega arith) among) among'))
+    (λ j among. subst (Among v.numbers) (sym (only_one v.number j (omega arith) among)) own)
+    (λ j among. without_among v.numbers v.number j among)
+    (λ j among among'. not_without v.numbers v.number (omega arith) (subst (Among (held_of v)) (only_one v.number j (omega arith) among) among'))
 
 -- a note has no number
 pub notes : (opening : List ℕ) (id : ℕ) (v : View) → Splits (Kept opening) id v (teller v) (note v)
@@ -91,12 +91,12 @@ takes opening id v other w own s k at apart there =
       small = k.small;
       ports = k.ports;
       fits = λ j u now. ⊎_elim
-        (λ same. subst (Fits opening k.log) same.1 (record {
-          own = Knows-nothing k.log;
-          told = Knows-nothing k.log;
-          opening_is = λ i has. absurd (⊎_elim (none_among i) (none_among i) has);
-        }))
-        (λ old. ⊎_elim
+          (λ same. subst (Fits opening k.log) same.1 (record {
+            own = Knows-nothing k.log;
+            told = Knows-nothing k.log;
+            opening_is = λ i has. absurd (⊎_elim (none_among i) (none_among i) has);
+          }))
+          (λ old. ⊎_elim
           (λ same. subst (Fits opening k.log) same.1 (record {
             own = fits.own;
             told = fits'.own;
@@ -104,11 +104,11 @@ takes opening id v other w own s k at apart there =
           }))
           (λ elsewhere. k.fits j u elsewhere.1)
           (at_set s.views id j b u old.1))
-        (at_set (set s.views id b) other j nothing u now);
+          (at_set (set s.views id b) other j nothing u now);
       apart = apart_join s.views id v other w b nothing at was
-        (λ j has. ⊎_elim (λ among. inl (inl among)) (λ among. inr (inl among)) has)
-        (λ j has. ⊎_elim (none_among j) (none_among j) has)
-        k.apart;
+          (λ j has. ⊎_elim (λ among. inl (inl among)) (λ among. inr (inl among)) has)
+          (λ j has. ⊎_elim (none_among j) (none_among j) has)
+          k.apart;
     }
 
 -- who has every number has seen the whole history

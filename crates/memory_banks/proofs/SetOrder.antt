@@ -54,9 +54,9 @@ pub alone_without : (k : ℕ) → k < 16 → in_order (without (one_of k) k) ≡
 unfolding in_order
 alone_without k within =
     none_passes (λ j. eqb (bit_at (without (one_of k) k) j) 1) 0 16
-      (λ j below. ne_eqb (bit_at (without (one_of k) k) j) 1
-        (λ among. not_without (one_of k) k (omega arith)
-          (subst (Among (without (one_of k) k)) (only_one k j (omega arith) (without_among (one_of k) k j among)) among)))
+    (λ j below. ne_eqb (bit_at (without (one_of k) k) j) 1
+    (λ among. not_without (one_of k) k (omega arith)
+    (subst (Among (without (one_of k) k)) (only_one k j (omega arith) (without_among (one_of k) k j among)) among)))
 
 -- a set that has numbers in order is not empty
 pub some_in_order : (set : ℕ) → 0 < length (in_order set) → 0 < set
@@ -114,27 +114,27 @@ module _ (set own : ℕ) (few : set < 2 ^ 16) (among : Among set own) (more : 0 
       let left : ℕ = without (without set least) own in
       let gone : bit_at left least ≡ 0 = bit_at_clear_other w32 (without set least) own o least l least_other ∙ bit_at_clear_same w32 set least l in
       first_passes (λ j. eqb (bit_at held j) 1) (λ j. eqb (bit_at left j) 1) least 0 16 (omega arith) (let x = least_below in omega arith)
-        (eq-eqb (bit_at held least) 1 least_in)
-        (λ j before. ne_eqb (bit_at held j) 1 (λ is. let zero_bit = (bit_at-trailing_zeros w32 held more (let f = held_few in omega arith)).2 j before in absurd (omega arith)))
-        (ne_eqb (bit_at left least) 1 (λ is. absurd (omega arith)))
-        (λ j apart below. ap (λ (b : ℕ). eqb b 1) (same_bits j apart (omega arith)))
+      (eq-eqb (bit_at held least) 1 least_in)
+      (λ j before. ne_eqb (bit_at held j) 1 (λ is. let zero_bit = (bit_at-trailing_zeros w32 held more (let f = held_few in omega arith)).2 j before in absurd (omega arith)))
+      (ne_eqb (bit_at left least) 1 (λ is. absurd (omega arith)))
+      (λ j apart below. ap (λ (b : ℕ). eqb b 1) (same_bits j apart (omega arith)))
 
   -- the least gives back the set
   pub back : bit_or (without set least) (one_of least) ≡ set
   back =
       let l : least < 16 = least_below in
       same_from_bits_below 16 (bit_or (without set least) (one_of least)) set
-        (or_lt 16 (without set least) (one_of least) (without_below set least few) (one_below least l))
-        few
-        (λ j below.
-          let either = bit_at_or (without set least) (one_of least) j in
-          elim (cases_eq j least) [
-            | inl same ↦
-                let one : bit_at (one_of least) j ≡ 1 = ap (λ (k : ℕ). bit_at (one_of least) k) same ∙ among_one least (omega arith) in
-                let was : bit_at set j ≡ 1 = ap (λ (k : ℕ). bit_at set k) same ∙ without_among set own least least_in in
-                omega (arith, bit_at-lt (without set least) j)
-            | inr other ↦
-                let none : bit_at (one_of least) j ≡ 0 = not_among (one_of least) j (λ is. other (only_one least j (omega arith) is)) in
-                let kept : bit_at (without set least) j ≡ bit_at set j = bit_at_clear_other w32 set least (omega arith) j (omega arith) other in
-                omega arith
-          ])
+      (or_lt 16 (without set least) (one_of least) (without_below set least few) (one_below least l))
+      few
+      (λ j below.
+      let either = bit_at_or (without set least) (one_of least) j in
+      elim (cases_eq j least) [
+        | inl same ↦
+            let one : bit_at (one_of least) j ≡ 1 = ap (λ (k : ℕ). bit_at (one_of least) k) same ∙ among_one least (omega arith) in
+            let was : bit_at set j ≡ 1 = ap (λ (k : ℕ). bit_at set k) same ∙ without_among set own least least_in in
+            omega (arith, bit_at-lt (without set least) j)
+        | inr other ↦
+            let none : bit_at (one_of least) j ≡ 0 = not_among (one_of least) j (λ is. other (only_one least j (omega arith) is)) in
+            let kept : bit_at (without set least) j ≡ bit_at set j = bit_at_clear_other w32 set least (omega arith) j (omega arith) other in
+            omega arith
+      ])

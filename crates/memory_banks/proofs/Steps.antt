@@ -55,18 +55,18 @@ appends opening s id v e k at by own settled few within fits answered x is =
       small = subst (All (λ y. y < 2 ^ 32)) (sym replayed) (All-set (λ y. y < 2 ^ 32) row e.word x small k.small);
       ports = All-push (λ f. f.port < 16) k.log e k.ports (omega arith);
       fits = λ j u there. ⊎_elim
-        (λ same. subst (Fits opening log) same.1 (record {
-          own = Knows-all log v.numbers;
-          told = record {
-            begins = Rattle.memory_banks.proofs.Prefixes.prefix_longer v.told k.log (e ∷ []) (k.fits id v at).told.begins;
-            whole = λ j among. absurd (no_told v settled j among);
-          };
-          opening_is = (k.fits id v at).opening_is;
-        }))
-        (λ other. Fits-longer opening k.log u e
+          (λ same. subst (Fits opening log) same.1 (record {
+            own = Knows-all log v.numbers;
+            told = record {
+              begins = Rattle.memory_banks.proofs.Prefixes.prefix_longer v.told k.log (e ∷ []) (k.fits id v at).told.begins;
+              whole = λ j among. absurd (no_told v settled j among);
+            };
+            opening_is = (k.fits id v at).opening_is;
+          }))
+          (λ other. Fits-longer opening k.log u e
           (λ has. other.0 (k.apart j id u v v.number other.1 at (subst (Has u) by has) (inl own)))
           (k.fits j u other.1))
-        (at_set s.views id j w u there);
+          (at_set s.views id j w u there);
       apart = apart_set s.views id v w at (λ j has. has) k.apart;
     }
 
@@ -93,7 +93,7 @@ tells opening s id v e k at by own answered =
 pub steps : (opening : List ℕ) (slots id : ℕ) (me : Seated) (kind : BusKind) (i operand : ℕ)
     → Among me.0.numbers me.0.number → IsSettled me.0 → me.0.numbers < 2 ^ 16 → i < length opening → operand < 2 ^ 32
     → Allows (Kept opening) slots id me i (λ n. changed kind n operand)
-        (λ found after. Makes me.0 (entry_by me.0 kind i operand (answer_to kind found)) after.0 × (after.1 ≡ me.1) × (found < 2 ^ 32))
+    (λ found after. Makes me.0 (entry_by me.0 kind i operand (answer_to kind found)) after.0 × (after.1 ≡ me.1) × (found < 2 ^ 32))
 steps opening slots id me kind i operand own settled few within fits s k count at wide =
     let v : View = me.0 in
     let n : ℕ = get_or s.words i 0 in
@@ -126,20 +126,23 @@ looks opening slots id me s k count at wide =
         small = k.small;
         ports = k.ports;
         fits = λ j u there. ⊎_elim
-          (λ same. subst (Fits opening k.log) same.1 (record {
-            own = Knows-all k.log w.numbers;
-            told = Knows-nothing k.log;
-            opening_is = λ i has. fits.opening_is i (fewer i has);
-          }))
-          (λ other. k.fits j u other.1)
-          (at_set s.views id j w u there);
+            (λ same. subst (Fits opening k.log) same.1 (record {
+              own = Knows-all k.log w.numbers;
+              told = Knows-nothing k.log;
+              opening_is = λ i has. fits.opening_is i (fewer i has);
+            }))
+            (λ other. k.fits j u other.1)
+            (at_set s.views id j w u there);
         apart = apart_set s.views id v w at fewer k.apart;
       },
-      (record {
-        begins = fits.own.begins;
-        told_begins = fits.told.begins;
-        own = λ j among. sym (fits.own.whole j among);
-        told = λ j among. sym (fits.told.whole j among);
-        rest = refl;
-      }, refl),
+      (
+        record {
+          begins = fits.own.begins;
+          told_begins = fits.told.begins;
+          own = λ j among. sym (fits.own.whole j among);
+          told = λ j among. sym (fits.told.whole j among);
+          rest = refl;
+        },
+        refl,
+      ),
     )

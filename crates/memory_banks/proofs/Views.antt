@@ -79,13 +79,13 @@ module _ (vs : List View) (id : ℕ) (v left right : View) (at : get_elem? vs id
   pub apart_split : Apart (set vs id left ++ right ∷ [])
   apart_split i j x y k there there' has has' = ⊎_elim
       (λ old. ⊎_elim
-        (λ old'. apart_set vs id v left at lefts apart i j x y k old.1 old'.1 has has')
-        (λ new'. absurd (beside i x k old.1 has (subst (λ (z : View). Has z k) (sym new'.1) has')))
-        (at_end (set vs id left) right y j there'))
+      (λ old'. apart_set vs id v left at lefts apart i j x y k old.1 old'.1 has has')
+      (λ new'. absurd (beside i x k old.1 has (subst (λ (z : View). Has z k) (sym new'.1) has')))
+      (at_end (set vs id left) right y j there'))
       (λ new. ⊎_elim
-        (λ old'. absurd (beside j y k old'.1 has' (subst (λ (z : View). Has z k) (sym new.1) has)))
-        (λ new'. new.0 ∙ sym new'.0)
-        (at_end (set vs id left) right y j there'))
+      (λ old'. absurd (beside j y k old'.1 has' (subst (λ (z : View). Has z k) (sym new.1) has)))
+      (λ new'. new.0 ∙ sym new'.0)
+      (at_end (set vs id left) right y j there'))
       (at_end (set vs id left) right x i there)
 
 module _ (vs : List View) (id : ℕ) (v : View) (other : ℕ) (w both spent : View) (at : get_elem? vs id ≡ some v) (at' : get_elem? vs other ≡ some w) (sums : (k : ℕ) → Has both k → Has v k ⊎ Has w k) (empty : (k : ℕ) → Has spent k → ⊥) (apart : Apart vs) where
@@ -95,9 +95,9 @@ module _ (vs : List View) (id : ℕ) (v : View) (other : ℕ) (w both spent : Vi
   came j u k there has = ⊎_elim
       (λ same. absurd (empty k (subst (λ (x : View). Has x k) (sym same.1) has)))
       (λ old. ⊎_elim
-        (λ same. inl (same.0, sums k (subst (λ (x : View). Has x k) (sym same.1) has)))
-        (λ elsewhere. inr (old.0, (elsewhere.0, (elsewhere.1, has))))
-        (at_set vs id j both u old.1))
+      (λ same. inl (same.0, sums k (subst (λ (x : View). Has x k) (sym same.1) has)))
+      (λ elsewhere. inr (old.0, (elsewhere.0, (elsewhere.1, has))))
+      (at_set vs id j both u old.1))
       (at_set (set vs id both) other j spent u there)
 
   -- an untouched view shares no number with the joined one
@@ -108,11 +108,11 @@ module _ (vs : List View) (id : ℕ) (v : View) (other : ℕ) (w both spent : Vi
   pub apart_join : Apart (set (set vs id both) other spent)
   apart_join i j x y k there there' has has' = ⊎_elim
       (λ joined. ⊎_elim
-        (λ joined'. joined.0 ∙ sym joined'.0)
-        (λ old'. absurd (clear j y k old'.0 old'.1.0 old'.1.1.0 old'.1.1.1 joined.1))
-        (came j y k there' has'))
+      (λ joined'. joined.0 ∙ sym joined'.0)
+      (λ old'. absurd (clear j y k old'.0 old'.1.0 old'.1.1.0 old'.1.1.1 joined.1))
+      (came j y k there' has'))
       (λ old. ⊎_elim
-        (λ joined'. absurd (clear i x k old.0 old.1.0 old.1.1.0 old.1.1.1 joined'.1))
-        (λ old'. apart i j x y k old.1.1.0 old'.1.1.0 old.1.1.1 old'.1.1.1)
-        (came j y k there' has'))
+      (λ joined'. absurd (clear i x k old.0 old.1.0 old.1.1.0 old.1.1.1 joined'.1))
+      (λ old'. apart i j x y k old.1.1.0 old'.1.1.0 old.1.1.1 old'.1.1.1)
+      (came j y k there' has'))
       (came i x k there has)

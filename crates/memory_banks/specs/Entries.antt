@@ -59,3 +59,7 @@ pub record Adds (opening : List ℕ) (seen : List BusEntry) (e : BusEntry) (now 
   pub all : now ≡ (seen ++ between) ++ e ∷ []
   pub none_own : entries_of e.port between ≡ []
   pub answered : IsAnswered (replay opening (seen ++ between)) e
+
+-- the entries on one word, in order
+abbrev pub entries_at : ℕ → List BusEntry → List BusEntry
+entries_at word log = filter (λ e. e.word == word) log

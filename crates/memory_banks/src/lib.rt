@@ -19,6 +19,7 @@ pub mod banks;
 pub mod bus;
 pub mod crew;
 pub mod entry;
+pub mod laws;
 pub mod plain_bus;
 pub mod port;
 pub mod port_bus;

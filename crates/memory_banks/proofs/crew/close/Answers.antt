@@ -35,5 +35,5 @@ returns-clause-words c =
     let given : length c.out.inside.items.items ≡ length (opening_of c.args.banks) = ap (λ (ws : List ℕ). length ws) c.out.view_is ∙ c.requires.out in
     let whole = whole_row c.out.inside.items.len c.out.inside.items.items c.read_into.new.out (sym lent.len ∙ long) (kept ∙ long) in
     let read : c.read_into.new.out ≡ row = same_read c.read_into.new.out row (omega arith)
-      (λ k within. subst (λ (ws : List ℕ). get_elem? ws k ≡ some (get_or c.read_into.new.out k 0)) done.1 (c.read_into.ensures k (omega arith))) in
+    (λ k within. subst (λ (ws : List ℕ). get_elem? ws k ≡ some (get_or c.read_into.new.out k 0)) done.1 (c.read_into.ensures k (omega arith))) in
     whole ∙ read

@@ -20,9 +20,9 @@ loop-port-preserved c =
       joined = step.numbers ∙ union-push numbers (numbers c.args.into.now) c.loop-port.yielded c.in-Some.port (numbers c.loop-port.into) before.joined;
       kept = KeptIn-trans (numbers c.args.into.now) c.args.into.now c.loop-port.into c.gather.new.self before.kept step.kept.0;
       lists = All-push (λ (p : Port). KeptIn (numbers p) p c.gather.new.self) c.loop-port.yielded c.in-Some.port
-        (All-weaker (λ (p : Port). KeptIn (numbers p) p c.loop-port.into) (λ (p : Port). KeptIn (numbers p) p c.gather.new.self)
+          (All-weaker (λ (p : Port). KeptIn (numbers p) p c.loop-port.into) (λ (p : Port). KeptIn (numbers p) p c.gather.new.self)
           (λ p kept. KeptIn-trans (numbers p) p c.loop-port.into c.gather.new.self kept step.kept.0) c.loop-port.yielded before.lists)
-        step.kept.1;
+          step.kept.1;
     }
 
 pub returns-clause-lists : goal.returns-clause-lists

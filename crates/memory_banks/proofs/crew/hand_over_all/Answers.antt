@@ -26,9 +26,9 @@ loop-at-preserved c =
       joined = step.numbers ∙ (union-push held_set (numbers c.args.into.now) (take at first) x (numbers c.loop-at.into) before.joined ∙ ap (λ (ps : List Port). union (numbers c.args.into.now) (map held_set ps)) (sym front));
       kept = KeptIn-trans (numbers c.args.into.now) c.args.into.now c.loop-at.into c.hand_over.new.into before.kept step.kept.0;
       lists = subst (λ (ps : List Port). All (λ p. KeptIn (held_set p) p c.hand_over.new.into) ps) (sym front)
-        (All-push (λ (p : Port). KeptIn (held_set p) p c.hand_over.new.into) (take at first) x
+          (All-push (λ (p : Port). KeptIn (held_set p) p c.hand_over.new.into) (take at first) x
           (All-weaker (λ (p : Port). KeptIn (held_set p) p c.loop-at.into) (λ (p : Port). KeptIn (held_set p) p c.hand_over.new.into)
-            (λ p kept. KeptIn-trans (held_set p) p c.loop-at.into c.hand_over.new.into kept step.kept.0) (take at first) before.lists)
+          (λ p kept. KeptIn-trans (held_set p) p c.loop-at.into c.hand_over.new.into kept step.kept.0) (take at first) before.lists)
           step.kept.1);
       renewed = row_more first now at x y within is before.rest (IsRenewed c.args.banks.now) before.renewed step.renewed.0;
       rest = row_rest first now at x y within is before.rest;

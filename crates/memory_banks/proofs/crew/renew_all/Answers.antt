@@ -11,7 +11,7 @@ pub returns-clause-lists : goal.returns-clause-lists
 returns-clause-lists c =
     let same = c.tell_all.ensures.same in
     All-weaker (λ (p : Port). KeptIn (held_set p) p c.hand_over_all.new.into) (λ (p : Port). KeptIn (held_set p) p c.tell_all.new.from)
-      (λ p kept. KeptIn-same (held_set p) p c.hand_over_all.new.into c.tell_all.new.from kept same.0.seen_is same.1) c.args.ports.now c.hand_over_all.ensures.lists
+    (λ p kept. KeptIn-same (held_set p) p c.hand_over_all.new.into c.tell_all.new.from kept same.0.seen_is same.1) c.args.ports.now c.hand_over_all.ensures.lists
 
 pub returns-clause-renewed : goal.returns-clause-renewed
 returns-clause-renewed c = AreRenewed-stand c.args.banks.now c.args.ports.now c.hand_over_all.new.ports c.tell_all.new.ports c.hand_over_all.ensures.renewed c.tell_all.auto.ports c.tell_all.ensures.stand

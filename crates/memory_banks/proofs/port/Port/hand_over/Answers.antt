@@ -38,13 +38,15 @@ invariant_of-self c =
 pub returns-clause-renewed : goal.returns-clause-renewed
 returns-clause-renewed c =
     let me = c.args.self.now in
-    let left = ap (λ (s : Seated). s.0) c.split_seat-rest.ensures.2 in
-    (record {
-      of = record { table = c.split_seat-rest.ensures.0 ∙ c.requires.of.0.table; opening_is = ap (λ (v : View). v.opening) left ∙ c.requires.of.0.opening_is };
-      number_is = refl;
-      holds_none = alone_without me.number (number_below me);
-      list = ap (λ (v : View). entries_of me.number v.seen) left;
-    }, ap (λ (v : View). v.seen) left)
+    let left = ap (λ (s : Seated). s.0) c.split_seat-rest.ensures.2 in (
+      record {
+        of = record { table = c.split_seat-rest.ensures.0 ∙ c.requires.of.0.table; opening_is = ap (λ (v : View). v.opening) left ∙ c.requires.of.0.opening_is };
+        number_is = refl;
+        holds_none = alone_without me.number (number_below me);
+        list = ap (λ (v : View). entries_of me.number v.seen) left;
+      },
+      ap (λ (v : View). v.seen) left,
+    )
 
 pub returns-clause-kept : goal.returns-clause-kept
 returns-clause-kept c =
