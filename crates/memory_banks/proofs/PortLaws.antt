@@ -1,5 +1,6 @@
 -- What the steps ask and tell, for ports.
-use Rattle.std.proofs.Common.{◌≡◌, ℕ, ◌^◌, ◌<◌, List, [], ◌∷◌, ◌++◌, length, map, get_or, ap, sym, ◌∙◌, subst, arith, bit_or}
+use Rattle.std.proofs.Common.{refl, suc, All, ◌≡◌, ℕ, ◌^◌, ◌<◌, List, [], ◌∷◌, ◌++◌, length, map, get_or, ap, sym, ◌∙◌, subst, arith, bit_or}
+use Rattle.std.specs.List.{range_with_len}
 use Rattle.std.specs.Int.{trailing_zeros, w32}
 use Rattle.std.proofs.lemmas.List.{append-nil, map_push}
 use Rattle.std.proofs.lemmas.List.Sums.{fold_push}
@@ -12,7 +13,7 @@ use Rattle.memory_banks.specs.declared.port.Port.{Port}
 use Rattle.memory_banks.specs.declared.banks.Banks.{Banks}
 use Rattle.memory_banks.specs.Entries.{answer_to, changed, entries_of, Adds}
 use Rattle.memory_banks.specs.Rule.{Among, Kept, Makes, Looks, entry_by, both, giver, given, handed, held_of, keeper, least_of, note, one_of, teller, without}
-use Rattle.memory_banks.specs.Ports.{AreRenewed, IsOf, Steps, StandsAs, KeptIn, held, in_order, held_set, number, numbers, seen, opening_of, union}
+use Rattle.memory_banks.specs.Ports.{AreRenewed, HasAll, IsOf, Steps, StandsAs, KeptIn, held, in_order, held_set, number, numbers, seen, opening_of, union}
 use Rattle.memory_banks.proofs.Prefixes.{entries-append, entries-own, prefix_trans}
 use Rattle.memory_banks.proofs.Sets.{among_below, without_below}
 use Rattle.memory_banks.proofs.SetOrder.{least_below, some_in_order}
@@ -157,7 +158,30 @@ AreRenewed-stand banks ps qs rs renewed same stand = record {
       record {
         of = then.of;
         number_is = then.number_is ∙ first.number_is;
+        alone = then.numbers_are ∙ (first.alone ∙ ap one_of (sym then.number_is));
         holds_none = (λ i. in_order (without (then.numbers_are i) (then.number_is i))) ∙ first.holds_none;
         list = then.list ∙ first.list;
       };
 }
+
+-- renewed ports are of the banks
+pub AreRenewed-of : (banks : Banks) (ps qs : List Port) → AreRenewed banks ps qs → All (λ q. IsOf banks q) qs
+AreRenewed-of banks ps qs renewed k d within = let n = renewed.count in (renewed.each k d (omega arith)).of
+
+-- and have the same numbers
+pub AreRenewed-numbers : (banks : Banks) (ps qs : List Port) → AreRenewed banks ps qs → map number qs ≡ map number ps
+AreRenewed-numbers banks [] [] renewed = refl
+AreRenewed-numbers banks [] (q ∷ qs) renewed = let n = renewed.count in absurd (omega arith)
+AreRenewed-numbers banks (p ∷ ps) [] renewed = let n = renewed.count in absurd (omega arith)
+AreRenewed-numbers banks (p ∷ ps) (q ∷ qs) renewed =
+    let n = renewed.count in
+    let rest = AreRenewed-numbers banks ps qs (record { count = omega arith; each = λ k d within. renewed.each (suc k) d (omega arith) }) in
+    λ i. (renewed.each 0 q (omega arith)).number_is i ∷ rest i
+
+-- the first port holds the numbers from 1 to 15
+pub first_held : in_order (without 65535 0) ≡ range_with_len 1 15
+unfolding in_order
+first_held = refl
+
+pub HasAll-held : (p : Port) → HasAll p → held p ≡ range_with_len 1 15
+HasAll-held p all = (λ i. in_order (without (all.others i) (all.first i))) ∙ first_held

@@ -4,7 +4,7 @@ use Rattle.std.specs.Int.{bit_at, w32, trailing_zeros}
 use Rattle.std.specs.List.{range_with_len}
 use Rattle.std.proofs.lemmas.Bool.{cases_eq}
 use Rattle.std.proofs.lemmas.Nat.{or_lt}
-use Rattle.std.proofs.lemmas.Nat.Bits.{bit_at-lt, bit_at_or, bit_at_clear_same, bit_at_clear_other, bit_at-trailing_zeros, same_from_bits_below}
+use Rattle.std.proofs.lemmas.Nat.Bits.{bit_at-lt, bit_at-zero, bit_at_or, bit_at_clear_same, bit_at_clear_other, bit_at-trailing_zeros, same_from_bits_below}
 use Rattle.memory_banks.specs.Rule.{Among, one_of, without}
 use Rattle.memory_banks.specs.Ports.{in_order}
 use Rattle.memory_banks.proofs.Sets.{among_below, among_one, only_one, one_below, without_among, not_without, among_without, without_below, least_among}
@@ -57,6 +57,15 @@ alone_without k within =
     (λ j below. ne_eqb (bit_at (without (one_of k) k) j) 1
     (λ among. not_without (one_of k) k (omega arith)
     (subst (Among (without (one_of k) k)) (only_one k j (omega arith) (without_among (one_of k) k j among)) among)))
+
+-- and as a set
+pub nothing_held : (k : ℕ) → k < 16 → without (one_of k) k ≡ 0
+nothing_held k within =
+    same_from_bits_below 16 (without (one_of k) k) 0 (without_below (one_of k) k (one_below k within)) (omega arith)
+    (λ j below. not_among (without (one_of k) k) j
+    (λ among. not_without (one_of k) k (omega arith)
+    (subst (Among (without (one_of k) k)) (only_one k j (omega arith) (without_among (one_of k) k j among)) among))
+    ∙ sym (bit_at-zero j))
 
 -- a set that has numbers in order is not empty
 pub some_in_order : (set : ℕ) → 0 < length (in_order set) → 0 < set

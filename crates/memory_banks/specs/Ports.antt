@@ -1,5 +1,5 @@
 -- What clauses say of ports and banks.
-use Rattle.std.specs.Prelude.{◌≡◌, ℕ, ◌==◌, List, [], ◌∷◌, ◌++◌, filter, fold, length, ◌<◌, slice_index_or, bit_or}
+use Rattle.std.specs.Prelude.{◌≡◌, ◌≢◌, ℕ, ◌==◌, List, [], ◌∷◌, ◌++◌, filter, fold, length, ◌<◌, slice_index_or, bit_or}
 use Rattle.std.specs.Int.{bit_at}
 use Rattle.std.specs.List.{range_with_len}
 use mathlib.Core.List.{IsPrefix}
@@ -7,7 +7,7 @@ use Rattle.memory_banks.specs.declared.entry.BusEntry.{BusEntry}
 use Rattle.memory_banks.specs.declared.port.Port.{Port}
 use Rattle.memory_banks.specs.declared.banks.Banks.{Banks}
 use Rattle.memory_banks.specs.Entries.{entries_of, and_entry, or_entry, Adds}
-use Rattle.memory_banks.specs.Rule.{Among, without}
+use Rattle.memory_banks.specs.Rule.{Among, one_of, without}
 
 -- the words that the banks were made of
 abbrev pub opening_of : Banks → List ℕ
@@ -79,6 +79,7 @@ union set sets = fold bit_or set sets
 pub record IsRenewed (banks : Banks) (p q : Port) : Type 0 where
   pub of : IsOf banks q
   pub number_is : number q ≡ number p
+  pub alone : numbers q ≡ one_of (number q)
   pub holds_none : held q ≡ []
   pub list : list_of q ≡ list_of p
 
@@ -94,9 +95,11 @@ pub record StandsAs (banks : Banks) (p q : Port) : Type 0 where
   pub numbers_are : numbers q ≡ numbers p
   pub list : list_of q ≡ list_of p
 
--- a port that holds no numbers, and has seen as much as p
+-- another port, which holds no numbers, and has seen as much as p
 pub record IsNew (banks : Banks) (p q : Port) : Type 0 where
   pub of : IsOf banks q
+  pub apart : number q ≢ number p
+  pub alone : numbers q ≡ one_of (number q)
   pub holds_none : held q ≡ []
   pub seen_is : seen q ≡ seen p
 

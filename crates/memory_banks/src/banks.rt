@@ -16,13 +16,16 @@ pub struct Banks {
 }
 
 impl Banks {
-    ghost use Rattle.memory_banks.specs.Ports.{HasAll, IsOf, list_of, opening_of, seen};
+    ghost use Rattle.std.specs.List.{range_with_len};
+    ghost use Rattle.memory_banks.specs.Ports.{HasAll, IsOf, held, opening_of, seen};
 
     /// The shared words and the first port, which has number 0 and holds 1 to 15.
     pub fn of_words(alloc: Global, words: &WordList) -> Result<(Banks, Port), Memory>
         requires { length words.now < 2 ^ 32 }
         ensures opening { IfOk result (λ r. opening_of r.0 ≡ words.now) }
-        ensures port { IfOk result (λ r. IsOf r.0 r.1 × HasAll r.1 × (seen r.1 ≡ [])) }
+        ensures port { IfOk result (λ r. IsOf r.0 r.1 × HasAll r.1) }
+        ensures holds { IfOk result (λ r. held r.1 ≡ range_with_len 1 15) }
+        ensures seen { IfOk result (λ r. seen r.1 ≡ []) }
     {
         let row = row_of(alloc, words.as_slice())?;
         let (table, seat) = Table::of_words(alloc, row.as_slice(), words)?;

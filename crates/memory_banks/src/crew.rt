@@ -93,6 +93,8 @@ fn renew_all(banks: &Banks, into: &mut Port, ports: &mut [Port])
     ensures kept { KeptIn (numbers into.old) into.old into.new }
     ensures lists { All (λ p. KeptIn (held_set p) p into.new) ports.old }
     ensures renewed { AreRenewed banks.now ports.old ports.new }
+    ensures ports_of { All (λ p. IsOf banks.now p) ports.new }
+    ensures ports_numbers { map number ports.new ≡ map number ports.old }
     ensures told { All (λ p. IsPrefix (seen into.new) (seen p)) ports.new }
 {
     hand_over_all(banks, into, ports);
@@ -111,6 +113,8 @@ pub fn renew(banks: &Banks, into: &mut Port, ports: &mut PortList)
     ensures kept { KeptIn (numbers into.old) into.old into.new }
     ensures lists { All (λ p. KeptIn (held_set p) p into.new) ports.old }
     ensures renewed { AreRenewed banks.now ports.old ports.new }
+    ensures ports_of { All (λ p. IsOf banks.now p) ports.new }
+    ensures ports_numbers { map number ports.new ≡ map number ports.old }
     ensures told { All (λ p. IsPrefix (seen into.new) (seen p)) ports.new }
 {
     renew_all(banks, into, ports.items.as_mut_slice());

@@ -5,12 +5,9 @@ ghost use Rattle.memory_banks.specs.Entries.{IsLegal, entries_at, load_entry, st
 
 /// A port reads back its own store, where no entry on the word came between.
 pub fn reads_back()
-    ensures {
-        (opening : List ℕ) (before between : List BusEntry) (port word value answer : ℕ)
+    ensures { (opening : List ℕ) (before between : List BusEntry) (port word value answer : ℕ)
         → word < length opening
         → entries_at word between ≡ []
         → IsLegal opening (((before ++ store_entry port word value ∷ []) ++ between) ++ load_entry port word answer ∷ [])
-        → answer ≡ value
-    }
-{
-}
+        → answer ≡ value }
+{}

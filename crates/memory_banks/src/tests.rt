@@ -42,11 +42,11 @@ fn store_both<R: Threads + Sync>(rt: &R, alloc: Global) -> Result<u32, Fail> {
         rt,
         || -> Port
             requires { IsOf banks first × (0 < length (opening_of banks)) }
-            ensures { IsOf banks result × (number result ≡ number first.entry) × (numbers result ≡ numbers first.entry) }
+            ensures { IsOf banks result × (number result ≡ number first) × (numbers result ≡ numbers first) }
         { store_bytes(&banks, first, 0xff00_ffff, 16) },
         || -> Port
             requires { IsOf banks second × (0 < length (opening_of banks)) }
-            ensures { IsOf banks result × (number result ≡ number second.entry) × (numbers result ≡ numbers second.entry) }
+            ensures { IsOf banks result × (number result ≡ number second) × (numbers result ≡ numbers second) }
         { store_bytes(&banks, second, 0xffff_ff00, 0) },
     );
     made.items.push(second)?;

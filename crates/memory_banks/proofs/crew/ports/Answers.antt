@@ -22,7 +22,7 @@ loop-made-preserved c =
       left = sym more.1;
       new = subst (λ (ps : List Port). All (λ p. IsNew c.args.banks.now first p) ps) (sym items)
           (All-push (λ (p : Port). IsNew c.args.banks.now first p) old c.give.result before.new
-          (record { of = step.new.of; holds_none = step.new.holds_none; seen_is = step.new.seen_is ∙ before.same.seen_is }));
+          (record { of = step.new.of; apart = λ same. step.new.apart (same ∙ sym before.same.number_is); alone = step.new.alone; holds_none = step.new.holds_none; seen_is = step.new.seen_is ∙ before.same.seen_is }));
       back = ap (λ (ps : List Port). union (numbers c.give.new.self) (map numbers ps)) items
           ∙ (ap (union (numbers c.give.new.self)) (map_push numbers old c.give.result)
           ∙ (union-front (numbers c.give.new.self) (map numbers old) (numbers c.give.result)

@@ -1,7 +1,7 @@
-use Rattle.std.proofs.Common.{arith, ap, ◌∙◌}
+use Rattle.std.proofs.Common.{refl, arith, ap, ◌∙◌}
 use Rattle.memory_banks.specs.declared.rule.View.{View}
 use Rattle.memory_banks.proofs.Sets.{among_one, one_below, without_below}
-use Rattle.memory_banks.proofs.SetOrder.{alone_without, back, in_order-least, own_stays}
+use Rattle.memory_banks.proofs.SetOrder.{alone_without, back, in_order-least, least_other, own_stays}
 use Rattle.memory_banks.proofs.PortLaws.{least_held, least_held_below, least_is, left_is, may_give, more, number_below, one_given}
 use Rattle.memory_banks.proofs.Steps.{Seated}
 use Rattle.memory_banks.proofs.port.Port.give.Goals as goal
@@ -52,6 +52,8 @@ returns-clause-new c =
     let right = ap (λ (s : Seated). s.0) c.split_seat-seat.ensures.4 in
     record {
       of = record { table = c.split_seat-seat.ensures.3 ∙ c.requires.of.table; opening_is = ap (λ (v : View). v.opening) right ∙ c.requires.of.opening_is };
+      apart = least_other me.numbers me.number me.few me.own (more me c.requires.some);
+      alone = refl;
       holds_none = alone_without (least_held me c.requires.some) (least_held_below me c.requires.some);
       seen_is = ap (λ (v : View). v.seen) right;
     }

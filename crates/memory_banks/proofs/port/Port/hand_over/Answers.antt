@@ -42,6 +42,7 @@ returns-clause-renewed c =
       record {
         of = record { table = c.split_seat-rest.ensures.0 ∙ c.requires.of.0.table; opening_is = ap (λ (v : View). v.opening) left ∙ c.requires.of.0.opening_is };
         number_is = refl;
+        alone = refl;
         holds_none = alone_without me.number (number_below me);
         list = ap (λ (v : View). entries_of me.number v.seen) left;
       },
