@@ -1,3 +1,4 @@
 pub mod Totals
 pub mod TicketLaws
 pub mod Keeps
+pub mod Gathered
