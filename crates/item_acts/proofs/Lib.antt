@@ -1,3 +1,12 @@
 pub mod Machine
 pub mod Launches
 pub mod Examples
+pub mod Swaps
+pub mod Fronts
+pub mod Schedules
+pub mod RaceTests
+pub mod HeldLaws
+pub mod HeldActs
+pub mod HeldOpens
+pub mod WorldTurns
+pub mod Answering

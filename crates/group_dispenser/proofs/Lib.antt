@@ -1,0 +1,4 @@
+pub mod Totals
+pub mod TicketLaws
+pub mod Keeps
+pub mod Gathered

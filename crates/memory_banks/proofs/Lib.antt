@@ -1,0 +1,10 @@
+pub mod Prefixes
+pub mod Histories
+pub mod Sets
+pub mod SetOrder
+pub mod Views
+pub mod Steps
+pub mod Seats
+pub mod Rows
+pub mod PortLaws
+pub mod ReadBack
