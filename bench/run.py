@@ -2,6 +2,8 @@
 """Runs the built program on stated inputs, and prints wall time and peak memory as a table.
 
   bench/run.py        after ./vx has built the program once
+  bench/run.py ports  millions of stores a second to shared words, by one to four threads; after rt ci or, in crates/port_steps,
+                      rt run has built that program
 
 The peak is never below that of the interpreter that starts the program, about 14 MiB.
 """
@@ -14,6 +16,8 @@ import time
 
 TOP = os.path.dirname(os.path.dirname(os.path.abspath(__file__)))
 PROGRAM = os.path.join(TOP, "crates", "vx", "out", "vx")
+PORT_STEPS = os.path.join(TOP, "crates", "port_steps", "out", "port_steps")
+STEPS = 20_000_000
 LIMIT = 1_048_576
 
 
@@ -55,7 +59,29 @@ def measure(make):
         return os.waitstatus_to_exitcode(status), time.monotonic() - begun, usage.ru_maxrss / 1024
 
 
+def seconds_of(threads, steps, apart):
+    begun = time.monotonic()
+    subprocess.run([PORT_STEPS, str(threads), str(steps), str(apart)], check=True)
+    return time.monotonic() - begun
+
+
+def ports():
+    """Each thread makes as many stores; what starting up takes is measured without stores, and taken off."""
+    if not os.access(PORT_STEPS, os.X_OK):
+        sys.exit("bench: port_steps is not built: run rt run -- 1 0 0 in crates/port_steps once")
+    print("%-8s %20s %20s" % ("threads", "distinct, M stores/s", "equal, M stores/s"))
+    for threads in range(1, 5):
+        rates = []
+        for apart in (16, 0):
+            taken = seconds_of(threads, STEPS, apart) - seconds_of(threads, 0, apart)
+            rates.append(threads * STEPS / taken / 1e6)
+        print("%-8d %20.1f %20.1f" % (threads, rates[0], rates[1]))
+    return 0
+
+
 def main():
+    if sys.argv[1:] == ["ports"]:
+        return ports()
     if not os.access(PROGRAM, os.X_OK):
         sys.exit("bench: the program is not built: run ./vx once")
     print("%-12s %8s %10s %12s" % ("input", "status", "seconds", "peak MiB"))
