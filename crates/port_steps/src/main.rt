@@ -29,7 +29,13 @@ fn store_all(banks: &Banks, port: Option<Port>, word: u32, steps: u32)
 }
 
 // The same on two threads.
-fn store_pair<R: Threads + Sync>(rt: &R, banks: &Banks, pair: (Option<Port>, Option<Port>), words: (u32, u32), steps: u32)
+fn store_pair<R: Threads + Sync>(
+    rt: &R,
+    banks: &Banks,
+    pair: (Option<Port>, Option<Port>),
+    words: (u32, u32),
+    steps: u32,
+)
     requires first { IfSome pair.0 (λ p. IsOf banks.now p) }
     requires second { IfSome pair.1 (λ p. IsOf banks.now p) }
     requires words { (words.0 < length (opening_of banks.now)) × (words.1 < length (opening_of banks.now)) }
@@ -56,7 +62,13 @@ fn take_port(banks: &Banks, made: &mut ListOf<Port>) -> Option<Port>
 }
 
 // The same on up to four threads. `apart` is how far the words of two threads lie apart.
-fn store_four<R: Threads + Sync>(rt: &R, banks: &Banks, mut made: ListOf<Port>, apart: u32, steps: u32)
+fn store_four<R: Threads + Sync>(
+    rt: &R,
+    banks: &Banks,
+    mut made: ListOf<Port>,
+    apart: u32,
+    steps: u32,
+)
     requires of { All (λ p. IsOf banks.now p) made }
     requires words { length (opening_of banks.now) ≡ 64 }
     requires apart { apart ≤ 16 }
@@ -75,7 +87,13 @@ fn store_four<R: Threads + Sync>(rt: &R, banks: &Banks, mut made: ListOf<Port>, 
 }
 
 // Makes the words and the ports, and lets the threads store.
-fn run<R: Threads + Sync>(rt: &R, alloc: Global, threads: u32, steps: u32, apart: u32) -> Result<(), Memory>
+fn run<R: Threads + Sync>(
+    rt: &R,
+    alloc: Global,
+    threads: u32,
+    steps: u32,
+    apart: u32,
+) -> Result<(), Memory>
     requires some { 1 ≤ threads }
     requires most { threads ≤ 4 }
     requires apart { apart ≤ 16 }
@@ -95,7 +113,11 @@ fn number_at(rt: &HostRuntime, place: usize) -> Option<u32> {
 }
 
 fn main(rt: HostRuntime) -> ExitCode {
-    let (Some(threads), Some(steps), Some(apart)) = (number_at(&rt, 1), number_at(&rt, 2), number_at(&rt, 3)) else {
+    let (Some(threads), Some(steps), Some(apart)) = (
+        number_at(&rt, 1),
+        number_at(&rt, 2),
+        number_at(&rt, 3),
+    ) else {
         return ExitCode::from(2);
     };
     if threads < 1 || threads > 4 || apart > 16 {
