@@ -98,7 +98,7 @@ is_register n = nat_lt n 32
 -- whether a 32-bit word stands for a signed number of so many bits
 abbrev pub is_signed : ℕ → ℕ → Bool
 is_signed width word =
-    nat_lt word (2 ^ (width - 1)) || nat_le (2 ^ 32 - 2 ^ (width - 1)) word && nat_lt word (2 ^ 32)
+    nat_lt word (2 ^ (width - 1)) || (nat_le (2 ^ 32 - 2 ^ (width - 1)) word && nat_lt word (2 ^ 32))
 
 -- whether a 32-bit word is a distance in bytes that a branch, and one that a jump can have
 abbrev pub is_place : ℕ → ℕ → Bool
