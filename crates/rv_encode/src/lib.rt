@@ -8,6 +8,7 @@
 mod bits;
 pub mod decoding;
 pub mod encoding;
+pub mod laws;
 
 pub use decoding::decode;
 pub use encoding::encode;

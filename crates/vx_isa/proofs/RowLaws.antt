@@ -382,8 +382,8 @@ module _ (w : ℕ) (small : w < 2 ^ 32) where
       λ found. under_key P (opcode_field w) (rows w) i each found refl
 
 -- the row of a word is spelled by it
-pub row_of-spells : (w : ℕ) (i : Instr) → row_of w ≡ Some i → Spells w i
-row_of-spells w i found =
+pub row_is_spelled : (w : ℕ) (i : Instr) → row_of w ≡ Some i → Spells w i
+row_is_spelled w i found =
     elim (cases_Bool (nat_lt w (2 ^ 32))) [
       | inl word ↦ rows_spelled w (ltb-true w (2 ^ 32) word) i (sym (cond-true (nat_lt w (2 ^ 32)) (look_up (opcode_field w) (rows w)) None word) ∙ found)
       | inr past ↦ absurd (none-some i (sym (cond-false (nat_lt w (2 ^ 32)) (look_up (opcode_field w) (rows w)) None past) ∙ found))
@@ -524,77 +524,77 @@ csr_small : (csr : ℕ) → is_csr csr ≡ true → csr < 2 ^ 12
 csr_small csr known = grind arith
 
 -- the word of an instruction is looked up as the instruction
-pub row_of-word_of : (i : Instr) → fits_of i ≡ true → row_of (word_of i) ≡ Some i
-row_of-word_of (Lui rd imm) fits = upper_read 0x37 rd imm Lui (omega arith) fits refl
-row_of-word_of (Auipc rd imm) fits = upper_read 0x17 rd imm Auipc (omega arith) fits refl
-row_of-word_of (Jal rd place) fits = jump_read rd place fits
-row_of-word_of (Jalr rd imm rs1) fits = jalr_read rd rs1 imm fits
-row_of-word_of (Beq rs1 rs2 place) fits = branches_read 0 rs1 rs2 place (omega arith) fits
-row_of-word_of (Bne rs1 rs2 place) fits = branches_read 1 rs1 rs2 place (omega arith) fits
-row_of-word_of (Blt rs1 rs2 place) fits = branches_read 4 rs1 rs2 place (omega arith) fits
-row_of-word_of (Bge rs1 rs2 place) fits = branches_read 5 rs1 rs2 place (omega arith) fits
-row_of-word_of (Bltu rs1 rs2 place) fits = branches_read 6 rs1 rs2 place (omega arith) fits
-row_of-word_of (Bgeu rs1 rs2 place) fits = branches_read 7 rs1 rs2 place (omega arith) fits
-row_of-word_of (Lb rd imm rs1) fits = loads_read 0 rd rs1 imm (omega arith) fits
-row_of-word_of (Lh rd imm rs1) fits = loads_read 1 rd rs1 imm (omega arith) fits
-row_of-word_of (Lw rd imm rs1) fits = loads_read 2 rd rs1 imm (omega arith) fits
-row_of-word_of (Lbu rd imm rs1) fits = loads_read 4 rd rs1 imm (omega arith) fits
-row_of-word_of (Lhu rd imm rs1) fits = loads_read 5 rd rs1 imm (omega arith) fits
-row_of-word_of (Sb rs2 imm rs1) fits = stores_read 0 rs1 rs2 imm (omega arith) fits
-row_of-word_of (Sh rs2 imm rs1) fits = stores_read 1 rs1 rs2 imm (omega arith) fits
-row_of-word_of (Sw rs2 imm rs1) fits = stores_read 2 rs1 rs2 imm (omega arith) fits
-row_of-word_of (Addi rd rs1 imm) fits = immediates_read 0 rd rs1 imm (omega arith) fits
-row_of-word_of (Slti rd rs1 imm) fits = immediates_read 2 rd rs1 imm (omega arith) fits
-row_of-word_of (Sltiu rd rs1 imm) fits = immediates_read 3 rd rs1 imm (omega arith) fits
-row_of-word_of (Xori rd rs1 imm) fits = immediates_read 4 rd rs1 imm (omega arith) fits
-row_of-word_of (Ori rd rs1 imm) fits = immediates_read 6 rd rs1 imm (omega arith) fits
-row_of-word_of (Andi rd rs1 imm) fits = immediates_read 7 rd rs1 imm (omega arith) fits
-row_of-word_of (Slli rd rs1 amount) fits = shifts_read 1 0x00 rd rs1 amount (omega arith) (omega arith) fits
-row_of-word_of (Srli rd rs1 amount) fits = shifts_read 5 0x00 rd rs1 amount (omega arith) (omega arith) fits
-row_of-word_of (Srai rd rs1 amount) fits = shifts_read 5 0x20 rd rs1 amount (omega arith) (omega arith) fits
-row_of-word_of (Add rd rs1 rs2) fits = operations_read 0 0x00 rd rs1 rs2 (omega arith) (omega arith) fits
-row_of-word_of (Sll rd rs1 rs2) fits = operations_read 1 0x00 rd rs1 rs2 (omega arith) (omega arith) fits
-row_of-word_of (Slt rd rs1 rs2) fits = operations_read 2 0x00 rd rs1 rs2 (omega arith) (omega arith) fits
-row_of-word_of (Sltu rd rs1 rs2) fits = operations_read 3 0x00 rd rs1 rs2 (omega arith) (omega arith) fits
-row_of-word_of (Xor rd rs1 rs2) fits = operations_read 4 0x00 rd rs1 rs2 (omega arith) (omega arith) fits
-row_of-word_of (Srl rd rs1 rs2) fits = operations_read 5 0x00 rd rs1 rs2 (omega arith) (omega arith) fits
-row_of-word_of (Or rd rs1 rs2) fits = operations_read 6 0x00 rd rs1 rs2 (omega arith) (omega arith) fits
-row_of-word_of (And rd rs1 rs2) fits = operations_read 7 0x00 rd rs1 rs2 (omega arith) (omega arith) fits
-row_of-word_of (Sub rd rs1 rs2) fits = operations_read 0 0x20 rd rs1 rs2 (omega arith) (omega arith) fits
-row_of-word_of (Sra rd rs1 rs2) fits = operations_read 5 0x20 rd rs1 rs2 (omega arith) (omega arith) fits
-row_of-word_of (Mul rd rs1 rs2) fits = operations_read 0 0x01 rd rs1 rs2 (omega arith) (omega arith) fits
-row_of-word_of (Mulh rd rs1 rs2) fits = operations_read 1 0x01 rd rs1 rs2 (omega arith) (omega arith) fits
-row_of-word_of (Mulhsu rd rs1 rs2) fits = operations_read 2 0x01 rd rs1 rs2 (omega arith) (omega arith) fits
-row_of-word_of (Mulhu rd rs1 rs2) fits = operations_read 3 0x01 rd rs1 rs2 (omega arith) (omega arith) fits
-row_of-word_of (Div rd rs1 rs2) fits = operations_read 4 0x01 rd rs1 rs2 (omega arith) (omega arith) fits
-row_of-word_of (Divu rd rs1 rs2) fits = operations_read 5 0x01 rd rs1 rs2 (omega arith) (omega arith) fits
-row_of-word_of (Rem rd rs1 rs2) fits = operations_read 6 0x01 rd rs1 rs2 (omega arith) (omega arith) fits
-row_of-word_of (Remu rd rs1 rs2) fits = operations_read 7 0x01 rd rs1 rs2 (omega arith) (omega arith) fits
-row_of-word_of (Fence before after) fits = let parts = and_parts (nat_lt before 16) (nat_lt after 16) fits in fence_read before after (ltb-true before 16 parts.0) (ltb-true after 16 parts.1)
-row_of-word_of Ebreak fits = refl
-row_of-word_of (Csrr rd csr) fits = let parts = and_parts (is_register rd) (is_csr csr) fits in csr_read rd csr (ltb-true rd 32 parts.0) (csr_small csr parts.1) parts.1
-row_of-word_of (Tmc rs1) fits = warps_read 0 rs1 0 (omega arith) fits refl
-row_of-word_of (Split rs1) fits = warps_read 2 rs1 0 (omega arith) fits refl
-row_of-word_of (Wspawn rs1 rs2) fits = let parts = and_parts (is_register rs1) (is_register rs2) fits in warps_read 1 rs1 rs2 (omega arith) parts.0 parts.1
-row_of-word_of (Bar rs1 rs2) fits = let parts = and_parts (is_register rs1) (is_register rs2) fits in warps_read 4 rs1 rs2 (omega arith) parts.0 parts.1
-row_of-word_of (Pred rs1 rs2) fits = let parts = and_parts (is_register rs1) (is_register rs2) fits in warps_read 5 rs1 rs2 (omega arith) parts.0 parts.1
-row_of-word_of Join fits = warps_read 3 0 0 (omega arith) refl refl
+pub row_of_word_of : (i : Instr) → fits_of i ≡ true → row_of (word_of i) ≡ Some i
+row_of_word_of (Lui rd imm) fits = upper_read 0x37 rd imm Lui (omega arith) fits refl
+row_of_word_of (Auipc rd imm) fits = upper_read 0x17 rd imm Auipc (omega arith) fits refl
+row_of_word_of (Jal rd place) fits = jump_read rd place fits
+row_of_word_of (Jalr rd imm rs1) fits = jalr_read rd rs1 imm fits
+row_of_word_of (Beq rs1 rs2 place) fits = branches_read 0 rs1 rs2 place (omega arith) fits
+row_of_word_of (Bne rs1 rs2 place) fits = branches_read 1 rs1 rs2 place (omega arith) fits
+row_of_word_of (Blt rs1 rs2 place) fits = branches_read 4 rs1 rs2 place (omega arith) fits
+row_of_word_of (Bge rs1 rs2 place) fits = branches_read 5 rs1 rs2 place (omega arith) fits
+row_of_word_of (Bltu rs1 rs2 place) fits = branches_read 6 rs1 rs2 place (omega arith) fits
+row_of_word_of (Bgeu rs1 rs2 place) fits = branches_read 7 rs1 rs2 place (omega arith) fits
+row_of_word_of (Lb rd imm rs1) fits = loads_read 0 rd rs1 imm (omega arith) fits
+row_of_word_of (Lh rd imm rs1) fits = loads_read 1 rd rs1 imm (omega arith) fits
+row_of_word_of (Lw rd imm rs1) fits = loads_read 2 rd rs1 imm (omega arith) fits
+row_of_word_of (Lbu rd imm rs1) fits = loads_read 4 rd rs1 imm (omega arith) fits
+row_of_word_of (Lhu rd imm rs1) fits = loads_read 5 rd rs1 imm (omega arith) fits
+row_of_word_of (Sb rs2 imm rs1) fits = stores_read 0 rs1 rs2 imm (omega arith) fits
+row_of_word_of (Sh rs2 imm rs1) fits = stores_read 1 rs1 rs2 imm (omega arith) fits
+row_of_word_of (Sw rs2 imm rs1) fits = stores_read 2 rs1 rs2 imm (omega arith) fits
+row_of_word_of (Addi rd rs1 imm) fits = immediates_read 0 rd rs1 imm (omega arith) fits
+row_of_word_of (Slti rd rs1 imm) fits = immediates_read 2 rd rs1 imm (omega arith) fits
+row_of_word_of (Sltiu rd rs1 imm) fits = immediates_read 3 rd rs1 imm (omega arith) fits
+row_of_word_of (Xori rd rs1 imm) fits = immediates_read 4 rd rs1 imm (omega arith) fits
+row_of_word_of (Ori rd rs1 imm) fits = immediates_read 6 rd rs1 imm (omega arith) fits
+row_of_word_of (Andi rd rs1 imm) fits = immediates_read 7 rd rs1 imm (omega arith) fits
+row_of_word_of (Slli rd rs1 amount) fits = shifts_read 1 0x00 rd rs1 amount (omega arith) (omega arith) fits
+row_of_word_of (Srli rd rs1 amount) fits = shifts_read 5 0x00 rd rs1 amount (omega arith) (omega arith) fits
+row_of_word_of (Srai rd rs1 amount) fits = shifts_read 5 0x20 rd rs1 amount (omega arith) (omega arith) fits
+row_of_word_of (Add rd rs1 rs2) fits = operations_read 0 0x00 rd rs1 rs2 (omega arith) (omega arith) fits
+row_of_word_of (Sll rd rs1 rs2) fits = operations_read 1 0x00 rd rs1 rs2 (omega arith) (omega arith) fits
+row_of_word_of (Slt rd rs1 rs2) fits = operations_read 2 0x00 rd rs1 rs2 (omega arith) (omega arith) fits
+row_of_word_of (Sltu rd rs1 rs2) fits = operations_read 3 0x00 rd rs1 rs2 (omega arith) (omega arith) fits
+row_of_word_of (Xor rd rs1 rs2) fits = operations_read 4 0x00 rd rs1 rs2 (omega arith) (omega arith) fits
+row_of_word_of (Srl rd rs1 rs2) fits = operations_read 5 0x00 rd rs1 rs2 (omega arith) (omega arith) fits
+row_of_word_of (Or rd rs1 rs2) fits = operations_read 6 0x00 rd rs1 rs2 (omega arith) (omega arith) fits
+row_of_word_of (And rd rs1 rs2) fits = operations_read 7 0x00 rd rs1 rs2 (omega arith) (omega arith) fits
+row_of_word_of (Sub rd rs1 rs2) fits = operations_read 0 0x20 rd rs1 rs2 (omega arith) (omega arith) fits
+row_of_word_of (Sra rd rs1 rs2) fits = operations_read 5 0x20 rd rs1 rs2 (omega arith) (omega arith) fits
+row_of_word_of (Mul rd rs1 rs2) fits = operations_read 0 0x01 rd rs1 rs2 (omega arith) (omega arith) fits
+row_of_word_of (Mulh rd rs1 rs2) fits = operations_read 1 0x01 rd rs1 rs2 (omega arith) (omega arith) fits
+row_of_word_of (Mulhsu rd rs1 rs2) fits = operations_read 2 0x01 rd rs1 rs2 (omega arith) (omega arith) fits
+row_of_word_of (Mulhu rd rs1 rs2) fits = operations_read 3 0x01 rd rs1 rs2 (omega arith) (omega arith) fits
+row_of_word_of (Div rd rs1 rs2) fits = operations_read 4 0x01 rd rs1 rs2 (omega arith) (omega arith) fits
+row_of_word_of (Divu rd rs1 rs2) fits = operations_read 5 0x01 rd rs1 rs2 (omega arith) (omega arith) fits
+row_of_word_of (Rem rd rs1 rs2) fits = operations_read 6 0x01 rd rs1 rs2 (omega arith) (omega arith) fits
+row_of_word_of (Remu rd rs1 rs2) fits = operations_read 7 0x01 rd rs1 rs2 (omega arith) (omega arith) fits
+row_of_word_of (Fence before after) fits = let parts = and_parts (nat_lt before 16) (nat_lt after 16) fits in fence_read before after (ltb-true before 16 parts.0) (ltb-true after 16 parts.1)
+row_of_word_of Ebreak fits = refl
+row_of_word_of (Csrr rd csr) fits = let parts = and_parts (is_register rd) (is_csr csr) fits in csr_read rd csr (ltb-true rd 32 parts.0) (csr_small csr parts.1) parts.1
+row_of_word_of (Tmc rs1) fits = warps_read 0 rs1 0 (omega arith) fits refl
+row_of_word_of (Split rs1) fits = warps_read 2 rs1 0 (omega arith) fits refl
+row_of_word_of (Wspawn rs1 rs2) fits = let parts = and_parts (is_register rs1) (is_register rs2) fits in warps_read 1 rs1 rs2 (omega arith) parts.0 parts.1
+row_of_word_of (Bar rs1 rs2) fits = let parts = and_parts (is_register rs1) (is_register rs2) fits in warps_read 4 rs1 rs2 (omega arith) parts.0 parts.1
+row_of_word_of (Pred rs1 rs2) fits = let parts = and_parts (is_register rs1) (is_register rs2) fits in warps_read 5 rs1 rs2 (omega arith) parts.0 parts.1
+row_of_word_of Join fits = warps_read 3 0 0 (omega arith) refl refl
 
-pub row_of-spelled : (w : ℕ) (i : Instr) → Spells w i → row_of w ≡ Some i
-row_of-spelled w i spelled = ap row_of (sym spelled.same_word) ∙ row_of-word_of i spelled.fits
+pub spelled_is_row : (w : ℕ) (i : Instr) → Spells w i → row_of w ≡ Some i
+spelled_is_row w i spelled = ap row_of (sym spelled.same_word) ∙ row_of_word_of i spelled.fits
 
 -- a word spells one row at most
-pub Spells-same : (w : ℕ) (i j : Instr) → Spells w i → Spells w j → i ≡ j
-Spells-same w i j first second = same_Some i j (sym (row_of-spelled w i first) ∙ row_of-spelled w j second)
+pub spells_one : (w : ℕ) (i j : Instr) → Spells w i → Spells w j → i ≡ j
+spells_one w i j first second = same_Some i j (sym (spelled_is_row w i first) ∙ spelled_is_row w j second)
 
 -- no row spells a word that is not found
-pub row_of-none : (w : ℕ) → row_of w ≡ None → (i : Instr) → ¬ Spells w i
-row_of-none w none i spelled = none-some i (sym none ∙ row_of-spelled w i spelled)
+pub no_row_spells : (w : ℕ) → row_of w ≡ None → (i : Instr) → ¬ Spells w i
+no_row_spells w none i spelled = none-some i (sym none ∙ spelled_is_row w i spelled)
 
 -- what spells an instruction is a word
-pub Spells-word : (w : ℕ) (i : Instr) → Spells w i → w < 2 ^ 32
-Spells-word w i spelled =
+pub spelled_is_word : (w : ℕ) (i : Instr) → Spells w i → w < 2 ^ 32
+spelled_is_word w i spelled =
     elim (cases_Bool (nat_lt w (2 ^ 32))) [
       | inl word ↦ ltb-true w (2 ^ 32) word
-      | inr past ↦ absurd (none-some i (sym (cond-false (nat_lt w (2 ^ 32)) (look_up (opcode_field w) (rows w)) None past) ∙ row_of-spelled w i spelled))
+      | inr past ↦ absurd (none-some i (sym (cond-false (nat_lt w (2 ^ 32)) (look_up (opcode_field w) (rows w)) None past) ∙ spelled_is_row w i spelled))
     ]

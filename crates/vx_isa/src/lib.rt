@@ -8,6 +8,7 @@ pub mod effects;
 pub mod fits;
 pub mod image;
 pub mod instr;
+pub mod laws;
 pub mod operands;
 
 pub use effects::effect;
