@@ -1,10 +1,13 @@
 ghost use Rattle.std.specs.Prelude.{◌≡◌, ◌&&◌, None, MatchOption, nat_eq, if◌then◌else◌};
 ghost use Rattle.vx_isa.specs.declared.instr.Instr.TheVariants.{Jalr, Slli};
-ghost use Rattle.vx_isa.specs.Rows.{b_imm, branches, differences, fences, funct3_field, funct7_field, i_imm, immediates, j_imm, loads, look_up, row_if, operations, opcode_field, products, rd_field, right_shifts, row_of, rows, rs1_field, rs2_field, s_imm, stores, sums, systems, u_imm, warps};
+ghost use Rattle.vx_isa.specs.Rows.{branches, differences, fences, funct3_field, immediates, loads, look_up, operations, products, rd_field, right_shifts, row_if, row_of, rows, rs1_field, stores, sums, systems, warps};
 ghost use Rattle.vx_isa.specs.Words.{bits, Spells};
 ghost use Rattle.vx_isa.specs.declared.instr.Instr as instr;
 
-use crate::bits::{bits, extend_sign, join};
+use crate::bits::bits;
+use crate::fields::{
+    b_imm, funct3_of, funct7_of, i_imm, j_imm, opcode_of, rd_of, rs1_of, rs2_of, s_imm, u_imm,
+};
 use vx_isa::Instr;
 
 /// The instruction that a word spells, and None exactly where no instruction is spelled by it.
@@ -13,7 +16,7 @@ pub fn decode(w: u32) -> Option<Instr>
     ensures value { result ≡ row_of w }
     ensures row { MatchOption result ((i : instr.Instr) → ¬ Spells w i) (λ i. Spells w i) }
 {
-    find_row(bits(w, 6, 0), w)
+    find_row(opcode_of(w), w)
 }
 
 /// The row of a word among those of an opcode.
@@ -24,11 +27,11 @@ fn find_row(opcode: u32, w: u32) -> Option<Instr>
     match opcode {
         0x37 => Some(Instr::Lui {
             rd: rd_of(w),
-            imm: bits(w, 31, 12),
+            imm: u_imm(w),
         }),
         0x17 => Some(Instr::Auipc {
             rd: rd_of(w),
-            imm: bits(w, 31, 12),
+            imm: u_imm(w),
         }),
         0x6f => Some(Instr::Jal {
             rd: rd_of(w),
@@ -268,82 +271,4 @@ fn find_warp_row(funct7: u32, funct3: u32, rd: u32, rs1: u32, rs2: u32) -> Optio
         5 => Some(Instr::Pred { rs1, rs2 }),
         _ => None,
     }
-}
-
-/// The field rd of a word.
-#[inline]
-fn rd_of(w: u32) -> u32
-    ensures { result ≡ rd_field w }
-{
-    bits(w, 11, 7)
-}
-
-/// The field funct3 of a word.
-#[inline]
-fn funct3_of(w: u32) -> u32
-    ensures { result ≡ funct3_field w }
-{
-    bits(w, 14, 12)
-}
-
-/// The field rs1 of a word.
-#[inline]
-fn rs1_of(w: u32) -> u32
-    ensures { result ≡ rs1_field w }
-{
-    bits(w, 19, 15)
-}
-
-/// The field rs2 of a word.
-#[inline]
-fn rs2_of(w: u32) -> u32
-    ensures { result ≡ rs2_field w }
-{
-    bits(w, 24, 20)
-}
-
-/// The field funct7 of a word.
-#[inline]
-fn funct7_of(w: u32) -> u32
-    ensures { result ≡ funct7_field w }
-{
-    bits(w, 31, 25)
-}
-
-/// The signed immediate of a word of the I format.
-#[inline]
-fn i_imm(w: u32) -> u32
-    ensures { result ≡ i_imm w }
-{
-    extend_sign(bits(w, 31, 20), 12)
-}
-
-/// The signed immediate of a word of the S format.
-#[inline]
-fn s_imm(w: u32) -> u32
-    ensures { result ≡ s_imm w }
-{
-    extend_sign(join(bits(w, 31, 25), bits(w, 11, 7), 5), 12)
-}
-
-/// The distance in a word of the B format.
-#[inline]
-fn b_imm(w: u32) -> u32
-    ensures { result ≡ b_imm w }
-{
-    let place = join(bits(w, 31, 31), bits(w, 7, 7), 1);
-    let place = join(place, bits(w, 30, 25), 6);
-    let place = join(place, bits(w, 11, 8), 4);
-    extend_sign(join(place, 0, 1), 13)
-}
-
-/// The distance in a word of the J format.
-#[inline]
-fn j_imm(w: u32) -> u32
-    ensures { result ≡ j_imm w }
-{
-    let place = join(bits(w, 31, 31), bits(w, 19, 12), 8);
-    let place = join(place, bits(w, 20, 20), 1);
-    let place = join(place, bits(w, 30, 21), 10);
-    extend_sign(join(place, 0, 1), 21)
 }

@@ -1,5 +1,5 @@
 ghost use Rattle.std.specs.Prelude.{◌≡◌, ◌<◌, true};
-ghost use Rattle.vx_isa.specs.Words.{are_registers, b_word, fits_branch, fits_signed, fits_upper, i_word, is_place, is_register, j_word, r_word, s_word, u_word, word_of, Fits};
+ghost use Rattle.vx_isa.specs.Words.{b_word, fits_upper, i_word, j_word, r_word, s_word, u_word, word_of, Fits};
 
 use crate::bits::{bits, join};
 use vx_isa::Instr;

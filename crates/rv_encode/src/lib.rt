@@ -2,13 +2,17 @@
 //! word spells ([`decode`]).
 //!
 //! Read first `specs/Words.antt` and `specs/Rows.antt` of `vx_isa` for what the two functions compute, then `encoding` and
-//! `decoding`. `bits` has the fields of a word and signed immediates, for both.
+//! `decoding`. `fields` has the fields and the immediates of a word, and `bits` what both make words of.
 #![tactic(auto)]
 
 mod bits;
 pub mod decoding;
 pub mod encoding;
+mod fields;
 pub mod laws;
 
 pub use decoding::decode;
 pub use encoding::encode;
+
+#[cfg(test)]
+mod tests;
