@@ -10,6 +10,11 @@ use Rattle.vx_isa.specs.declared.instr.Instr.{Instr}
 use Rattle.vx_isa.specs.declared.instr.Instr.TheVariants.{Lui, Auipc, Jal, Jalr, Beq, Bne, Blt, Bge, Bltu, Bgeu, Lb, Lh, Lw, Lbu, Lhu, Sb, Sh, Sw, Addi, Slti, Sltiu, Xori, Ori, Andi, Slli, Srli, Srai, Add, Sub, Sll, Slt, Sltu, Xor, Srl, Sra, Or, And, Mul, Mulh, Mulhsu, Mulhu, Div, Divu, Rem, Remu, Fence, Ebreak, Csrr, Tmc, Wspawn, Split, Join, Bar, Pred}
 use Rattle.vx_isa.proofs.WordLaws as law
 
+-- two facts, one after the other
+infixr 2 ◌⋆◌
+◌⋆◌ : {A B : Type 0} → A → B → A × B
+a ⋆ b = (a, b)
+
 -- what holds of each row of a table under its key
 abbrev Each : (ℕ → Instr → Type 0) → Table → Type 0
 Each P [] = Unit {0}
@@ -39,187 +44,110 @@ only_if P test row holds i same = let parts = cond_some test row i same in subst
 branches_spelled : (rs1 rs2 place key : ℕ) (i : Instr) → fits_branch rs1 rs2 place ≡ true → look_up key (branches rs1 rs2 place) ≡ Some i → Spells (b_word 0x63 key rs1 rs2 place) i
 branches_spelled rs1 rs2 place key i fits =
     let P : ℕ → Instr → Type 0 = λ k i. Spells (b_word 0x63 k rs1 rs2 place) i in
-    let each : Each P (branches rs1 rs2 place) = (
-      only (P 0) (Beq rs1 rs2 place) (record { fits = fits; same_word = refl }),
-      (
-        only (P 1) (Bne rs1 rs2 place) (record { fits = fits; same_word = refl }),
-        (
-          only (P 4) (Blt rs1 rs2 place) (record { fits = fits; same_word = refl }),
-          (
-            only (P 5) (Bge rs1 rs2 place) (record { fits = fits; same_word = refl }),
-            (
-              only (P 6) (Bltu rs1 rs2 place) (record { fits = fits; same_word = refl }),
-              (
-                only (P 7) (Bgeu rs1 rs2 place) (record { fits = fits; same_word = refl }),
-                tt,
-              ),
-            ),
-          ),
-        ),
-      ),
-    ) in
+    let each : Each P (branches rs1 rs2 place) =
+    only (P 0) (Beq rs1 rs2 place) (record { fits = fits; same_word = refl })
+    ⋆ only (P 1) (Bne rs1 rs2 place) (record { fits = fits; same_word = refl })
+    ⋆ only (P 4) (Blt rs1 rs2 place) (record { fits = fits; same_word = refl })
+    ⋆ only (P 5) (Bge rs1 rs2 place) (record { fits = fits; same_word = refl })
+    ⋆ only (P 6) (Bltu rs1 rs2 place) (record { fits = fits; same_word = refl })
+    ⋆ only (P 7) (Bgeu rs1 rs2 place) (record { fits = fits; same_word = refl })
+    ⋆ tt in
     under_key P key (branches rs1 rs2 place) i each
 
 loads_spelled : (rd rs1 imm key : ℕ) (i : Instr) → fits_signed rd rs1 imm ≡ true → look_up key (loads rd rs1 imm) ≡ Some i → Spells (i_word 0x03 key rd rs1 imm) i
 loads_spelled rd rs1 imm key i fits =
     let P : ℕ → Instr → Type 0 = λ k i. Spells (i_word 0x03 k rd rs1 imm) i in
-    let each : Each P (loads rd rs1 imm) = (
-      only (P 0) (Lb rd imm rs1) (record { fits = fits; same_word = refl }),
-      (
-        only (P 1) (Lh rd imm rs1) (record { fits = fits; same_word = refl }),
-        (
-          only (P 2) (Lw rd imm rs1) (record { fits = fits; same_word = refl }),
-          (
-            only (P 4) (Lbu rd imm rs1) (record { fits = fits; same_word = refl }),
-            (
-              only (P 5) (Lhu rd imm rs1) (record { fits = fits; same_word = refl }),
-              tt,
-            ),
-          ),
-        ),
-      ),
-    ) in
+    let each : Each P (loads rd rs1 imm) =
+    only (P 0) (Lb rd imm rs1) (record { fits = fits; same_word = refl })
+    ⋆ only (P 1) (Lh rd imm rs1) (record { fits = fits; same_word = refl })
+    ⋆ only (P 2) (Lw rd imm rs1) (record { fits = fits; same_word = refl })
+    ⋆ only (P 4) (Lbu rd imm rs1) (record { fits = fits; same_word = refl })
+    ⋆ only (P 5) (Lhu rd imm rs1) (record { fits = fits; same_word = refl })
+    ⋆ tt in
     under_key P key (loads rd rs1 imm) i each
 
 stores_spelled : (rs1 rs2 imm key : ℕ) (i : Instr) → fits_signed rs1 rs2 imm ≡ true → look_up key (stores rs1 rs2 imm) ≡ Some i → Spells (s_word 0x23 key rs1 rs2 imm) i
 stores_spelled rs1 rs2 imm key i fits =
     let P : ℕ → Instr → Type 0 = λ k i. Spells (s_word 0x23 k rs1 rs2 imm) i in
-    let each : Each P (stores rs1 rs2 imm) = (
-      only (P 0) (Sb rs2 imm rs1) (record { fits = fits; same_word = refl }),
-      (
-        only (P 1) (Sh rs2 imm rs1) (record { fits = fits; same_word = refl }),
-        (
-          only (P 2) (Sw rs2 imm rs1) (record { fits = fits; same_word = refl }),
-          tt,
-        ),
-      ),
-    ) in
+    let each : Each P (stores rs1 rs2 imm) =
+    only (P 0) (Sb rs2 imm rs1) (record { fits = fits; same_word = refl })
+    ⋆ only (P 1) (Sh rs2 imm rs1) (record { fits = fits; same_word = refl })
+    ⋆ only (P 2) (Sw rs2 imm rs1) (record { fits = fits; same_word = refl })
+    ⋆ tt in
     under_key P key (stores rs1 rs2 imm) i each
 
 right_shifts_spelled : (rd rs1 amount key : ℕ) (i : Instr) → are_registers rd rs1 amount ≡ true → look_up key (right_shifts rd rs1 amount) ≡ Some i → Spells (r_word 0x13 5 key rd rs1 amount) i
 right_shifts_spelled rd rs1 amount key i fits =
     let P : ℕ → Instr → Type 0 = λ k i. Spells (r_word 0x13 5 k rd rs1 amount) i in
-    let each : Each P (right_shifts rd rs1 amount) = (
-      only (P 0x00) (Srli rd rs1 amount) (record { fits = fits; same_word = refl }),
-      (
-        only (P 0x20) (Srai rd rs1 amount) (record { fits = fits; same_word = refl }),
-        tt,
-      ),
-    ) in
+    let each : Each P (right_shifts rd rs1 amount) =
+    only (P 0x00) (Srli rd rs1 amount) (record { fits = fits; same_word = refl })
+    ⋆ only (P 0x20) (Srai rd rs1 amount) (record { fits = fits; same_word = refl })
+    ⋆ tt in
     under_key P key (right_shifts rd rs1 amount) i each
 
 sums_spelled : (rd rs1 rs2 key : ℕ) (i : Instr) → are_registers rd rs1 rs2 ≡ true → look_up key (sums rd rs1 rs2) ≡ Some i → Spells (r_word 0x33 key 0x00 rd rs1 rs2) i
 sums_spelled rd rs1 rs2 key i fits =
     let P : ℕ → Instr → Type 0 = λ k i. Spells (r_word 0x33 k 0x00 rd rs1 rs2) i in
-    let each : Each P (sums rd rs1 rs2) = (
-      only (P 0) (Add rd rs1 rs2) (record { fits = fits; same_word = refl }),
-      (
-        only (P 1) (Sll rd rs1 rs2) (record { fits = fits; same_word = refl }),
-        (
-          only (P 2) (Slt rd rs1 rs2) (record { fits = fits; same_word = refl }),
-          (
-            only (P 3) (Sltu rd rs1 rs2) (record { fits = fits; same_word = refl }),
-            (
-              only (P 4) (Xor rd rs1 rs2) (record { fits = fits; same_word = refl }),
-              (
-                only (P 5) (Srl rd rs1 rs2) (record { fits = fits; same_word = refl }),
-                (
-                  only (P 6) (Or rd rs1 rs2) (record { fits = fits; same_word = refl }),
-                  (
-                    only (P 7) (And rd rs1 rs2) (record { fits = fits; same_word = refl }),
-                    tt,
-                  ),
-                ),
-              ),
-            ),
-          ),
-        ),
-      ),
-    ) in
+    let each : Each P (sums rd rs1 rs2) =
+    only (P 0) (Add rd rs1 rs2) (record { fits = fits; same_word = refl })
+    ⋆ only (P 1) (Sll rd rs1 rs2) (record { fits = fits; same_word = refl })
+    ⋆ only (P 2) (Slt rd rs1 rs2) (record { fits = fits; same_word = refl })
+    ⋆ only (P 3) (Sltu rd rs1 rs2) (record { fits = fits; same_word = refl })
+    ⋆ only (P 4) (Xor rd rs1 rs2) (record { fits = fits; same_word = refl })
+    ⋆ only (P 5) (Srl rd rs1 rs2) (record { fits = fits; same_word = refl })
+    ⋆ only (P 6) (Or rd rs1 rs2) (record { fits = fits; same_word = refl })
+    ⋆ only (P 7) (And rd rs1 rs2) (record { fits = fits; same_word = refl })
+    ⋆ tt in
     under_key P key (sums rd rs1 rs2) i each
 
 differences_spelled : (rd rs1 rs2 key : ℕ) (i : Instr) → are_registers rd rs1 rs2 ≡ true → look_up key (differences rd rs1 rs2) ≡ Some i → Spells (r_word 0x33 key 0x20 rd rs1 rs2) i
 differences_spelled rd rs1 rs2 key i fits =
     let P : ℕ → Instr → Type 0 = λ k i. Spells (r_word 0x33 k 0x20 rd rs1 rs2) i in
-    let each : Each P (differences rd rs1 rs2) = (
-      only (P 0) (Sub rd rs1 rs2) (record { fits = fits; same_word = refl }),
-      (
-        only (P 5) (Sra rd rs1 rs2) (record { fits = fits; same_word = refl }),
-        tt,
-      ),
-    ) in
+    let each : Each P (differences rd rs1 rs2) =
+    only (P 0) (Sub rd rs1 rs2) (record { fits = fits; same_word = refl })
+    ⋆ only (P 5) (Sra rd rs1 rs2) (record { fits = fits; same_word = refl })
+    ⋆ tt in
     under_key P key (differences rd rs1 rs2) i each
 
 products_spelled : (rd rs1 rs2 key : ℕ) (i : Instr) → are_registers rd rs1 rs2 ≡ true → look_up key (products rd rs1 rs2) ≡ Some i → Spells (r_word 0x33 key 0x01 rd rs1 rs2) i
 products_spelled rd rs1 rs2 key i fits =
     let P : ℕ → Instr → Type 0 = λ k i. Spells (r_word 0x33 k 0x01 rd rs1 rs2) i in
-    let each : Each P (products rd rs1 rs2) = (
-      only (P 0) (Mul rd rs1 rs2) (record { fits = fits; same_word = refl }),
-      (
-        only (P 1) (Mulh rd rs1 rs2) (record { fits = fits; same_word = refl }),
-        (
-          only (P 2) (Mulhsu rd rs1 rs2) (record { fits = fits; same_word = refl }),
-          (
-            only (P 3) (Mulhu rd rs1 rs2) (record { fits = fits; same_word = refl }),
-            (
-              only (P 4) (Div rd rs1 rs2) (record { fits = fits; same_word = refl }),
-              (
-                only (P 5) (Divu rd rs1 rs2) (record { fits = fits; same_word = refl }),
-                (
-                  only (P 6) (Rem rd rs1 rs2) (record { fits = fits; same_word = refl }),
-                  (
-                    only (P 7) (Remu rd rs1 rs2) (record { fits = fits; same_word = refl }),
-                    tt,
-                  ),
-                ),
-              ),
-            ),
-          ),
-        ),
-      ),
-    ) in
+    let each : Each P (products rd rs1 rs2) =
+    only (P 0) (Mul rd rs1 rs2) (record { fits = fits; same_word = refl })
+    ⋆ only (P 1) (Mulh rd rs1 rs2) (record { fits = fits; same_word = refl })
+    ⋆ only (P 2) (Mulhsu rd rs1 rs2) (record { fits = fits; same_word = refl })
+    ⋆ only (P 3) (Mulhu rd rs1 rs2) (record { fits = fits; same_word = refl })
+    ⋆ only (P 4) (Div rd rs1 rs2) (record { fits = fits; same_word = refl })
+    ⋆ only (P 5) (Divu rd rs1 rs2) (record { fits = fits; same_word = refl })
+    ⋆ only (P 6) (Rem rd rs1 rs2) (record { fits = fits; same_word = refl })
+    ⋆ only (P 7) (Remu rd rs1 rs2) (record { fits = fits; same_word = refl })
+    ⋆ tt in
     under_key P key (products rd rs1 rs2) i each
 
 operations_spelled : (funct3 rd rs1 rs2 key : ℕ) (i : Instr) → are_registers rd rs1 rs2 ≡ true → look_up key (operations funct3 rd rs1 rs2) ≡ Some i → Spells (r_word 0x33 funct3 key rd rs1 rs2) i
 operations_spelled funct3 rd rs1 rs2 key i fits =
     let P : ℕ → Instr → Type 0 = λ k i. Spells (r_word 0x33 funct3 k rd rs1 rs2) i in
-    let each : Each P (operations funct3 rd rs1 rs2) = (
-      λ i. sums_spelled rd rs1 rs2 funct3 i fits,
-      (
-        λ i. differences_spelled rd rs1 rs2 funct3 i fits,
-        (
-          λ i. products_spelled rd rs1 rs2 funct3 i fits,
-          tt,
-        ),
-      ),
-    ) in
+    let each : Each P (operations funct3 rd rs1 rs2) =
+    (λ i. sums_spelled rd rs1 rs2 funct3 i fits)
+    ⋆ (λ i. differences_spelled rd rs1 rs2 funct3 i fits)
+    ⋆ (λ i. products_spelled rd rs1 rs2 funct3 i fits)
+    ⋆ tt in
     under_key P key (operations funct3 rd rs1 rs2) i each
 
 warps_spelled : (rs1 rs2 key : ℕ) (i : Instr) → is_register rs1 ≡ true → is_register rs2 ≡ true → look_up key (warps rs1 rs2) ≡ Some i → Spells (r_word 0x0b key 0x00 0 rs1 rs2) i
 warps_spelled rs1 rs2 key i first second =
     let P : ℕ → Instr → Type 0 = λ k i. Spells (r_word 0x0b k 0x00 0 rs1 rs2) i in
     let both : (is_register rs1 && is_register rs2) ≡ true = and_from (is_register rs1) (is_register rs2) first second in
-    let each : Each P (warps rs1 rs2) = (
-      only_if (P 0) (nat_eq rs2 0) (Tmc rs1) (λ none. record { fits = first; same_word = λ j. r_word 0x0b 0 0x00 0 rs1 (sym (eqb-true rs2 0 none) j) }),
-      (
-        only (P 1) (Wspawn rs1 rs2) (record { fits = both; same_word = refl }),
-        (
-          only_if (P 2) (nat_eq rs2 0) (Split rs1) (λ none. record { fits = first; same_word = λ j. r_word 0x0b 2 0x00 0 rs1 (sym (eqb-true rs2 0 none) j) }),
-          (
-            only_if (P 3) (nat_eq rs1 0 && nat_eq rs2 0) Join (λ none.
-                let parts = and_parts (nat_eq rs1 0) (nat_eq rs2 0) none in
-                record { fits = refl; same_word = λ j. r_word 0x0b 3 0x00 0 (sym (eqb-true rs1 0 parts.0) j) (sym (eqb-true rs2 0 parts.1) j) }),
-            (
-              only (P 4) (Bar rs1 rs2) (record { fits = both; same_word = refl }),
-              (
-                only (P 5) (Pred rs1 rs2) (record { fits = both; same_word = refl }),
-                tt,
-              ),
-            ),
-          ),
-        ),
-      ),
-    ) in
+    let each : Each P (warps rs1 rs2) =
+    only_if (P 0) (nat_eq rs2 0) (Tmc rs1) (λ none. record { fits = first; same_word = λ j. r_word 0x0b 0 0x00 0 rs1 (sym (eqb-true rs2 0 none) j) })
+    ⋆ only (P 1) (Wspawn rs1 rs2) (record { fits = both; same_word = refl })
+    ⋆ only_if (P 2) (nat_eq rs2 0) (Split rs1) (λ none. record { fits = first; same_word = λ j. r_word 0x0b 2 0x00 0 rs1 (sym (eqb-true rs2 0 none) j) })
+    ⋆ only_if (P 3) (nat_eq rs1 0 && nat_eq rs2 0) Join (λ none.
+    let parts = and_parts (nat_eq rs1 0) (nat_eq rs2 0) none in
+    record { fits = refl; same_word = λ j. r_word 0x0b 3 0x00 0 (sym (eqb-true rs1 0 parts.0) j) (sym (eqb-true rs2 0 parts.1) j) })
+    ⋆ only (P 4) (Bar rs1 rs2) (record { fits = both; same_word = refl })
+    ⋆ only (P 5) (Pred rs1 rs2) (record { fits = both; same_word = refl })
+    ⋆ tt in
     under_key P key (warps rs1 rs2) i each
 
 module _ (w : ℕ) (small : w < 2 ^ 32) where
@@ -255,31 +183,16 @@ module _ (w : ℕ) (small : w < 2 ^ 32) where
       let shift : (k kind : ℕ) → funct3_field w ≡ k → funct7 ≡ kind → r_word 0x13 k kind rd rs1 amount ≡ w = λ k kind. register_whole 0x13 k kind opcode in
       let fits : fits_signed rd rs1 imm ≡ true = law.i_fits w in
       let fits' : are_registers rd rs1 amount ≡ true = law.r_fits w in
-      let each : Each P (immediates funct7 rd rs1 amount imm) = (
-        only (P 0) (Addi rd rs1 imm) (λ same. record { fits = fits; same_word = plain 0 same }),
-        (
-          only_if (P 1) (nat_eq funct7 0) (Slli rd rs1 amount) (λ kind same. record { fits = fits'; same_word = shift 1 0 same (eqb-true funct7 0 kind) }),
-          (
-            only (P 2) (Slti rd rs1 imm) (λ same. record { fits = fits; same_word = plain 2 same }),
-            (
-              only (P 3) (Sltiu rd rs1 imm) (λ same. record { fits = fits; same_word = plain 3 same }),
-              (
-                only (P 4) (Xori rd rs1 imm) (λ same. record { fits = fits; same_word = plain 4 same }),
-                (
-                  λ i found same. subst (λ v. Spells v i) (shift 5 funct7 same refl) (right_shifts_spelled rd rs1 amount funct7 i fits' found),
-                  (
-                    only (P 6) (Ori rd rs1 imm) (λ same. record { fits = fits; same_word = plain 6 same }),
-                    (
-                      only (P 7) (Andi rd rs1 imm) (λ same. record { fits = fits; same_word = plain 7 same }),
-                      tt,
-                    ),
-                  ),
-                ),
-              ),
-            ),
-          ),
-        ),
-      ) in
+      let each : Each P (immediates funct7 rd rs1 amount imm) =
+      only (P 0) (Addi rd rs1 imm) (λ same. record { fits = fits; same_word = plain 0 same })
+      ⋆ only_if (P 1) (nat_eq funct7 0) (Slli rd rs1 amount) (λ kind same. record { fits = fits'; same_word = shift 1 0 same (eqb-true funct7 0 kind) })
+      ⋆ only (P 2) (Slti rd rs1 imm) (λ same. record { fits = fits; same_word = plain 2 same })
+      ⋆ only (P 3) (Sltiu rd rs1 imm) (λ same. record { fits = fits; same_word = plain 3 same })
+      ⋆ only (P 4) (Xori rd rs1 imm) (λ same. record { fits = fits; same_word = plain 4 same })
+      ⋆ (λ i found same. subst (λ v. Spells v i) (shift 5 funct7 same refl) (right_shifts_spelled rd rs1 amount funct7 i fits' found))
+      ⋆ only (P 6) (Ori rd rs1 imm) (λ same. record { fits = fits; same_word = plain 6 same })
+      ⋆ only (P 7) (Andi rd rs1 imm) (λ same. record { fits = fits; same_word = plain 7 same })
+      ⋆ tt in
       λ found. under_key P (funct3_field w) (immediates funct7 rd rs1 amount imm) i each found refl
 
   -- the fields of a fence, of a row without registers, and of a row that reads a control register
@@ -305,21 +218,18 @@ module _ (w : ℕ) (small : w < 2 ^ 32) where
   fences_spelled opcode i =
       let P : ℕ → Instr → Type 0 = λ k i. funct3_field w ≡ k → Spells w i in
       let each : Each P (fences (rd_field w) (rs1_field w) (bits 31 28 w) (bits 27 24 w) (bits 23 20 w)) =
-      (only_if (P 0) (nat_eq (rd_field w) 0 && nat_eq (rs1_field w) 0 && nat_eq (bits 31 28 w) 0) (Fence (bits 27 24 w) (bits 23 20 w)) (λ unused same. record { fits = fence_fits; same_word = fence_whole opcode same unused }), tt) in
+      only_if (P 0) (nat_eq (rd_field w) 0 && nat_eq (rs1_field w) 0 && nat_eq (bits 31 28 w) 0) (Fence (bits 27 24 w) (bits 23 20 w)) (λ unused same. record { fits = fence_fits; same_word = fence_whole opcode same unused }) ⋆ tt in
       λ found. under_key P (funct3_field w) (fences (rd_field w) (rs1_field w) (bits 31 28 w) (bits 27 24 w) (bits 23 20 w)) i each found refl
 
   systems_spelled : opcode_field w ≡ 0x73 → (i : Instr) → look_up (funct3_field w) (systems (rd_field w) (rs1_field w) (bits 31 20 w)) ≡ Some i → Spells w i
   systems_spelled opcode i =
       let P : ℕ → Instr → Type 0 = λ k i. funct3_field w ≡ k → Spells w i in
-      let each : Each P (systems (rd_field w) (rs1_field w) (bits 31 20 w)) = (
-        only_if (P 0) (nat_eq (rd_field w) 0 && nat_eq (rs1_field w) 0 && nat_eq (bits 31 20 w) 1) Ebreak (λ unused same. record { fits = refl; same_word = break_whole opcode same unused }),
-        (
-          only_if (P 2) (nat_eq (rs1_field w) 0 && is_csr (bits 31 20 w)) (Csrr (rd_field w) (bits 31 20 w)) (λ known same.
-              let parts = and_parts (nat_eq (rs1_field w) 0) (is_csr (bits 31 20 w)) known in
-              record { fits = csr_fits parts.1; same_word = csr_whole opcode same (eqb-true (rs1_field w) 0 parts.0) }),
-          tt,
-        ),
-      ) in
+      let each : Each P (systems (rd_field w) (rs1_field w) (bits 31 20 w)) =
+      only_if (P 0) (nat_eq (rd_field w) 0 && nat_eq (rs1_field w) 0 && nat_eq (bits 31 20 w) 1) Ebreak (λ unused same. record { fits = refl; same_word = break_whole opcode same unused })
+      ⋆ only_if (P 2) (nat_eq (rs1_field w) 0 && is_csr (bits 31 20 w)) (Csrr (rd_field w) (bits 31 20 w)) (λ known same.
+      let parts = and_parts (nat_eq (rs1_field w) 0) (is_csr (bits 31 20 w)) known in
+      record { fits = csr_fits parts.1; same_word = csr_whole opcode same (eqb-true (rs1_field w) 0 parts.0) })
+      ⋆ tt in
       λ found. under_key P (funct3_field w) (systems (rd_field w) (rs1_field w) (bits 31 20 w)) i each found refl
 
   warp_spelled : opcode_field w ≡ 0x0b → (i : Instr) →
@@ -342,43 +252,20 @@ module _ (w : ℕ) (small : w < 2 ^ 32) where
   rows_spelled : (i : Instr) → look_up (opcode_field w) (rows w) ≡ Some i → Spells w i
   rows_spelled i =
       let P : ℕ → Instr → Type 0 = λ k i. opcode_field w ≡ k → Spells w i in
-      let each : Each P (rows w) = (
-        only (P 0x37) (Lui (rd_field w) (u_imm w)) (λ same. record { fits = law.u_fits w; same_word = upper_whole 0x37 same }),
-        (
-          only (P 0x17) (Auipc (rd_field w) (u_imm w)) (λ same. record { fits = law.u_fits w; same_word = upper_whole 0x17 same }),
-          (
-            only (P 0x6f) (Jal (rd_field w) (j_imm w)) (λ same. record { fits = law.j_fits w; same_word = jump_whole same }),
-            (
-              only_if (P 0x67) (nat_eq (funct3_field w) 0) (Jalr (rd_field w) (i_imm w) (rs1_field w)) (λ zero same. record { fits = law.i_fits w; same_word = signed_whole 0x67 0 same (eqb-true (funct3_field w) 0 zero) }),
-              (
-                λ i found same. subst (λ v. Spells v i) (branch_whole same) (branches_spelled (rs1_field w) (rs2_field w) (b_imm w) (funct3_field w) i (law.b_fits w) found),
-                (
-                  λ i found same. subst (λ v. Spells v i) (signed_whole 0x03 (funct3_field w) same refl) (loads_spelled (rd_field w) (rs1_field w) (i_imm w) (funct3_field w) i (law.i_fits w) found),
-                  (
-                    λ i found same. subst (λ v. Spells v i) (store_whole same) (stores_spelled (rs1_field w) (rs2_field w) (s_imm w) (funct3_field w) i (law.s_fits w) found),
-                    (
-                      λ i found same. immediates_spelled same i found,
-                      (
-                        λ i found same. subst (λ v. Spells v i) (register_whole 0x33 (funct3_field w) (funct7_field w) same refl refl) (operations_spelled (funct3_field w) (rd_field w) (rs1_field w) (rs2_field w) (funct7_field w) i (law.r_fits w) found),
-                        (
-                          λ i found same. fences_spelled same i found,
-                          (
-                            λ i found same. systems_spelled same i found,
-                            (
-                              λ i found same. warp_spelled same i found,
-                              tt,
-                            ),
-                          ),
-                        ),
-                      ),
-                    ),
-                  ),
-                ),
-              ),
-            ),
-          ),
-        ),
-      ) in
+      let each : Each P (rows w) =
+      only (P 0x37) (Lui (rd_field w) (u_imm w)) (λ same. record { fits = law.u_fits w; same_word = upper_whole 0x37 same })
+      ⋆ only (P 0x17) (Auipc (rd_field w) (u_imm w)) (λ same. record { fits = law.u_fits w; same_word = upper_whole 0x17 same })
+      ⋆ only (P 0x6f) (Jal (rd_field w) (j_imm w)) (λ same. record { fits = law.j_fits w; same_word = jump_whole same })
+      ⋆ only_if (P 0x67) (nat_eq (funct3_field w) 0) (Jalr (rd_field w) (i_imm w) (rs1_field w)) (λ zero same. record { fits = law.i_fits w; same_word = signed_whole 0x67 0 same (eqb-true (funct3_field w) 0 zero) })
+      ⋆ (λ i found same. subst (λ v. Spells v i) (branch_whole same) (branches_spelled (rs1_field w) (rs2_field w) (b_imm w) (funct3_field w) i (law.b_fits w) found))
+      ⋆ (λ i found same. subst (λ v. Spells v i) (signed_whole 0x03 (funct3_field w) same refl) (loads_spelled (rd_field w) (rs1_field w) (i_imm w) (funct3_field w) i (law.i_fits w) found))
+      ⋆ (λ i found same. subst (λ v. Spells v i) (store_whole same) (stores_spelled (rs1_field w) (rs2_field w) (s_imm w) (funct3_field w) i (law.s_fits w) found))
+      ⋆ (λ i found same. immediates_spelled same i found)
+      ⋆ (λ i found same. subst (λ v. Spells v i) (register_whole 0x33 (funct3_field w) (funct7_field w) same refl refl) (operations_spelled (funct3_field w) (rd_field w) (rs1_field w) (rs2_field w) (funct7_field w) i (law.r_fits w) found))
+      ⋆ (λ i found same. fences_spelled same i found)
+      ⋆ (λ i found same. systems_spelled same i found)
+      ⋆ (λ i found same. warp_spelled same i found)
+      ⋆ tt in
       λ found. under_key P (opcode_field w) (rows w) i each found refl
 
 -- the row of a word is spelled by it
