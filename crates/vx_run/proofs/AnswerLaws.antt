@@ -9,20 +9,20 @@ use Rattle.vx_run.specs.declared.report.Cause.{Cause}
 use Rattle.vx_run.specs.declared.report.Cause.TheVariants.{Usage, Source, Launch, ReadFault, Missing}
 use Rattle.vx_run.specs.declared.report.LaunchKind.TheVariants.{NoEntry, Arguments}
 use Rattle.item_acts.specs.Tame.{LaunchLeaves}
-use Rattle.vx_run.specs.First.{launch_of}
+use Rattle.first_kernels.specs.First.{launch_of}
 use Rattle.vx_run.specs.Output.{output_text}
 use Rattle.vx_run.specs.declared.report.SourceKind.TheVariants.{Subset}
 use Rattle.vx_run.specs.declared.stages.Stop.{Stop}
 use Rattle.vx_run.specs.declared.stages.Stop.TheVariants as stop
-use Rattle.vx_run.specs.declared.words.BufWord.{BufWord}
-use Rattle.vx_run.specs.declared.words.RunWords.{RunWords}
-use Rattle.vx_run.specs.declared.words.UsageFault.{UsageFault}
-use Rattle.vx_run.specs.declared.words.UsageFault.TheVariants as usage
-use Rattle.vx_run.specs.declared.words.UsageKind.TheVariants.{Command, Form}
-use Rattle.vx_run.specs.FirstText.{IsKernelFile}
-use Rattle.vx_run.specs.FirstTree as tree
-use Rattle.vx_run.specs.Words.{IsRun, IsOrigin, AreNumbersOf}
-use Rattle.vx_run.specs.WordForms.{BeginsRun}
+use Rattle.vx_words.specs.declared.run_words.BufWord.{BufWord}
+use Rattle.vx_words.specs.declared.run_words.RunWords.{RunWords}
+use Rattle.vx_words.specs.declared.usage.UsageFault.{UsageFault}
+use Rattle.vx_words.specs.declared.usage.UsageFault.TheVariants as usage
+use Rattle.vx_words.specs.declared.usage.UsageKind.TheVariants.{Command, Form}
+use Rattle.first_kernels.specs.FirstText.{IsKernelFile}
+use Rattle.first_kernels.specs.FirstTree as tree
+use Rattle.vx_words.specs.Words.{IsRun, IsOrigin, AreNumbersOf}
+use Rattle.vx_words.specs.WordForms.{BeginsRun}
 use Rattle.vx_run.specs.Answers as answers
 use Rattle.vx_run.specs.Answers.{Outcome, Refuses, Prints, bytes_in, first_place, FromArguments, WrongArguments, Runs, FromBuffers, HasEntry, FromEntry, FromSource, NoKernel, HasKernel, FromFile, NoFile, HasFile, FromWords, NoCommand, NoForm, HasForm}
 use Rattle.vx_run.specs.Stages.{StopsAt, ComesTo, StopFaults, StageFaults, StageMisses, ReadsFront, StopsReading, IsRunnable, IsNoKernel, IsPlain, StopsFor}

@@ -5,10 +5,10 @@ use Rattle.vx_base.specs.declared.types.Pos.{Pos}
 use Rattle.vx_world.specs.Counts.{Rose}
 use Rattle.vx_world.specs.Writing.{Appends}
 use Rattle.vx_world.specs.declared.reading.Entry.{Entry}
-use Rattle.vx_run.specs.declared.words.BufWord.{BufWord}
-use Rattle.vx_run.specs.declared.words.RunWords.{RunWords}
-use Rattle.vx_run.specs.declared.words.UsageKind.{UsageKind}
-use Rattle.vx_run.specs.FirstTree.{Form}
+use Rattle.vx_words.specs.declared.run_words.BufWord.{BufWord}
+use Rattle.vx_words.specs.declared.run_words.RunWords.{RunWords}
+use Rattle.vx_words.specs.declared.usage.UsageKind.{UsageKind}
+use Rattle.first_kernels.specs.FirstTree.{Form}
 use Rattle.vx_run.specs.declared.report.Cause.{Cause}
 use Rattle.vx_run.specs.declared.report.Cause.TheVariants.{Done, Usage, Source, Launch, Buffer, Trap, Stuck, Turns, ReadFault, WriteFault, Memory, Missing}
 use Rattle.vx_run.specs.declared.report.Report.{Report}

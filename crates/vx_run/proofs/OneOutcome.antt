@@ -6,19 +6,19 @@ use Rattle.vx_world.specs.Reading.{bytes_named}
 use Rattle.vx_run.specs.declared.report.BufferKind.TheVariants as buffer
 use Rattle.vx_run.specs.declared.report.Cause.{Cause}
 use Rattle.vx_run.specs.declared.report.Cause.TheVariants as cause
-use Rattle.vx_run.specs.declared.words.BufFrom.{BufFrom}
-use Rattle.vx_run.specs.declared.words.BufFrom.TheVariants.{File, Zero}
-use Rattle.vx_run.specs.declared.words.BufWord.{BufWord}
-use Rattle.vx_run.specs.declared.words.RunWords.{RunWords}
-use Rattle.vx_run.specs.declared.words.UsageKind.{UsageKind}
-use Rattle.vx_run.specs.FirstText.{IsKernelFile}
-use Rattle.vx_run.specs.FirstReading.{form_of_text}
-use Rattle.vx_run.specs.FirstTree.{Form}
-use Rattle.vx_run.specs.Words.{IsRun}
-use Rattle.vx_run.specs.WordForms.{BeginsRun}
+use Rattle.vx_words.specs.declared.run_words.BufFrom.{BufFrom}
+use Rattle.vx_words.specs.declared.run_words.BufFrom.TheVariants.{File, Zero}
+use Rattle.vx_words.specs.declared.run_words.BufWord.{BufWord}
+use Rattle.vx_words.specs.declared.run_words.RunWords.{RunWords}
+use Rattle.vx_words.specs.declared.usage.UsageKind.{UsageKind}
+use Rattle.first_kernels.specs.FirstText.{IsKernelFile}
+use Rattle.first_kernels.specs.FirstReading.{form_of_text}
+use Rattle.first_kernels.specs.FirstTree.{Form}
+use Rattle.vx_words.specs.Words.{IsRun}
+use Rattle.vx_words.specs.WordForms.{BeginsRun}
 use Rattle.vx_run.specs.Answers.{Outcome, Refuses, Prints, Brings, counted_bytes, FromArguments, WrongArguments, Runs, FromBuffers, NoBuffers, NoBufferFile, WrongLength, NextBuffer, FromEntry, NoEntry, HasEntry, FromSource, NoKernel, HasKernel, FromFile, NoFile, HasFile, FromWords, NoCommand, NoForm, HasForm}
-use Rattle.vx_run.proofs.FirstTexts.{text_again}
-use Rattle.vx_run.proofs.RunMeaning.{IsRun-same}
+use Rattle.first_kernels.proofs.FirstTexts.{text_again}
+use Rattle.vx_words.proofs.RunMeaning.{IsRun-same}
 
 -- two outcomes are one refusal, or both print
 abbrev pub Agree : Outcome → Outcome → Type 0

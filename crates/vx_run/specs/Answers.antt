@@ -3,21 +3,21 @@ use Rattle.vx_base.specs.declared.types.Pos.{Pos}
 use Rattle.item_acts.specs.Tame.{LaunchLeaves}
 use Rattle.vx_world.specs.declared.reading.Entry.{Entry}
 use Rattle.vx_world.specs.Reading.{bytes_named}
-use Rattle.vx_run.specs.declared.words.UsageKind.TheVariants as usage
-use Rattle.vx_run.specs.declared.words.BufFrom.{BufFrom}
-use Rattle.vx_run.specs.declared.words.BufFrom.TheVariants.{File, Zero}
-use Rattle.vx_run.specs.declared.words.BufWord.{BufWord}
-use Rattle.vx_run.specs.declared.words.RunWords.{RunWords}
+use Rattle.vx_words.specs.declared.usage.UsageKind.TheVariants as usage
+use Rattle.vx_words.specs.declared.run_words.BufFrom.{BufFrom}
+use Rattle.vx_words.specs.declared.run_words.BufFrom.TheVariants.{File, Zero}
+use Rattle.vx_words.specs.declared.run_words.BufWord.{BufWord}
+use Rattle.vx_words.specs.declared.run_words.RunWords.{RunWords}
 use Rattle.vx_run.specs.declared.report.SourceKind.TheVariants as source
 use Rattle.vx_run.specs.declared.report.LaunchKind.TheVariants as launch
 use Rattle.vx_run.specs.declared.report.BufferKind.TheVariants as buffer
 use Rattle.vx_run.specs.declared.report.Cause.{Cause}
 use Rattle.vx_run.specs.declared.report.Cause.TheVariants as cause
-use Rattle.vx_run.specs.Words.{IsRun}
-use Rattle.vx_run.specs.WordForms.{BeginsRun}
-use Rattle.vx_run.specs.FirstTree.{Form}
-use Rattle.vx_run.specs.First.{launch_of}
-use Rattle.vx_run.specs.FirstText.{IsKernelFile}
+use Rattle.vx_words.specs.Words.{IsRun}
+use Rattle.vx_words.specs.WordForms.{BeginsRun}
+use Rattle.first_kernels.specs.FirstTree.{Form}
+use Rattle.first_kernels.specs.First.{launch_of}
+use Rattle.first_kernels.specs.FirstText.{IsKernelFile}
 use Rattle.vx_run.specs.Output.{output_text}
 
 -- What the words and the files of a call come to: it is refused for a cause, or it prints a text.

@@ -1,8 +1,8 @@
 use Rattle.std.specs.Prelude.{ℕ, List, [], ◌∷◌, ◌++◌, codes}
 use Rattle.std.specs.Fmt.{decimal}
 use Rattle.vx_base.specs.Texts.{pos_text}
-use Rattle.vx_run.specs.declared.words.UsageKind.{UsageKind}
-use Rattle.vx_run.specs.declared.words.UsageKind.TheVariants.{Command, Form}
+use Rattle.vx_words.specs.declared.usage.UsageKind.{UsageKind}
+use Rattle.vx_words.specs.declared.usage.UsageKind.TheVariants.{Command, Form}
 use Rattle.vx_run.specs.declared.report.SourceKind.{SourceKind}
 use Rattle.vx_run.specs.declared.report.SourceKind.TheVariants.{Subset}
 use Rattle.vx_run.specs.declared.report.LaunchKind.{LaunchKind}

@@ -5,13 +5,13 @@ use Rattle.vx_run.specs.declared.report.Cause.{Cause}
 use Rattle.vx_run.specs.declared.stages.Stop.{Stop}
 use Rattle.vx_run.specs.declared.stages.Stop.TheVariants.{Refused, Memory}
 use Rattle.vx_world.specs.declared.reading.Entry.{Entry}
-use Rattle.vx_run.specs.declared.words.RunWords.{RunWords}
-use Rattle.vx_run.specs.declared.words.UsageFault.{UsageFault}
-use Rattle.vx_run.specs.declared.words.UsageFault.TheVariants.{Usage, Memory as NoMemory}
+use Rattle.vx_words.specs.declared.run_words.RunWords.{RunWords}
+use Rattle.vx_words.specs.declared.usage.UsageFault.{UsageFault}
+use Rattle.vx_words.specs.declared.usage.UsageFault.TheVariants.{Usage, Memory as NoMemory}
 use Rattle.vx_run.specs.declared.report.SourceKind.TheVariants as source
-use Rattle.vx_run.specs.FirstText.{IsKernelFile}
-use Rattle.vx_run.specs.FirstTree.{Form}
-use Rattle.vx_run.specs.Words.{IsOrigin}
+use Rattle.first_kernels.specs.FirstText.{IsKernelFile}
+use Rattle.first_kernels.specs.FirstTree.{Form}
+use Rattle.vx_words.specs.Words.{IsOrigin}
 use Rattle.vx_run.specs.Answers.{Outcome, Refuses, Prints, Holds, first_place}
 
 -- a refusal is one that the call may come to; a read fault is one read that failed

@@ -2,18 +2,18 @@
 
 ghost use Rattle.std.specs.Prelude.{◌≡◌, ◌-◌, ◌*◌, ◌^◌, ◌≤◌, ◌↔◌, min, All, length, map, string_bytes, IsTrue, IfOk, IfErr};
 ghost use Rattle.vx_run.specs.Answers.{first_place, FromArguments, FromEntry, FromFile, FromWords};
-ghost use Rattle.vx_run.specs.FirstText.{IsKernelFile, IsWellFormed};
-ghost use Rattle.vx_run.specs.FirstTree.{form_of};
+ghost use Rattle.first_kernels.specs.FirstText.{IsKernelFile, IsWellFormed};
+ghost use Rattle.first_kernels.specs.FirstTree.{form_of};
 ghost use Rattle.vx_run.specs.Stages.{ComesTo, IsNoKernel, IsPlain, IsRunnable, StageFaults, StageMisses, StopsFor};
 
-use crate::first::parser::parse_kernel;
-use crate::first::tree::Kernel;
+use first_kernels::parser::parse_kernel;
+use first_kernels::tree::Kernel;
 use crate::launch::print_launch;
 use crate::loading::load_buffers;
 use crate::reading::read_file;
 use crate::report::{Cause, LaunchKind, SourceKind};
 use crate::stages::Stop;
-use crate::words::{RunWords, UsageFault, read_words};
+use vx_words::{RunWords, UsageFault, read_words};
 use std::alloc::Global;
 use vx_base::{Memory, Pos, Text};
 use vx_world::Files;

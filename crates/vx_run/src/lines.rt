@@ -2,7 +2,7 @@ ghost use Rattle.std.specs.Prelude.{◌≡◌, IfOk, IsOk, string_bytes};
 ghost use Rattle.vx_run.specs.Lines.{line_of, status_of};
 
 use crate::report::{BufferKind, Cause, LaunchKind, SourceKind};
-use crate::words::UsageKind;
+use vx_words::UsageKind;
 use std::alloc::{AllocError, Global};
 use std::fmt;
 use vx_base::{Memory, Pos, Text};

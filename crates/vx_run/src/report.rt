@@ -1,4 +1,4 @@
-use crate::words::UsageKind;
+use vx_words::UsageKind;
 use vx_base::{Pos, Text};
 
 /// Why a kernel's file is refused.
