@@ -6,6 +6,8 @@
 
 pub mod hexadecimal;
 pub mod lines;
+pub mod mnemonics;
 
 pub use hexadecimal::{HexFault, hex_text, hex_words};
 pub use lines::cut_line;
+pub use mnemonics::{Field, Form, Mnemonic, Operands, Part};
