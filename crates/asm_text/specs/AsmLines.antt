@@ -2,7 +2,8 @@
 --
 -- Each function reads one thing at the front of some bytes. It gives what is read and the bytes behind it, or the number of
 -- bytes that are left from the first one on that no line goes on with.
-use Rattle.std.specs.Prelude.{ℕ, ◌+◌, ◌-◌, ◌*◌, ◌%◌, ◌^◌, ◌==◌, nat_lt, nat_le, nat_eq, min, max, Bool, true, false, not, ◌&&◌, ◌||◌, if◌then◌else◌, List, [], ◌∷◌, length, take, drop, slice_index, Option, Some, None, Result, Ok, Err}
+use Rattle.std.specs.Prelude.{◌≡◌, ℕ, ◌+◌, ◌-◌, ◌*◌, ◌%◌, ◌^◌, ◌==◌, nat_lt, nat_le, nat_eq, min, max, Bool, true, false, not, ◌&&◌, ◌||◌, if◌then◌else◌, List, [], ◌∷◌, length, take, drop, slice_index, Option, Some, None, Result, Ok, Err}
+use Rattle.std.specs.Borrow.{Bor}
 use Rattle.std.specs.Char.{is_digit}
 use Rattle.std.specs.List.{find, prefix_len, common_prefix_len}
 use Rattle.std.specs.Str.{bytes_eq}
@@ -22,6 +23,11 @@ use Rattle.asm_text.specs.Mnemonics.{all_mnemonics, name_of, form_of, parts_of, 
 abbrev pub Read : Type 0 → Type 0
 Read A = Result (A × List ℕ) ℕ
 
+-- what a function has read, in the words of the definitions
+abbrev pub Says : {A : Type 0} → Result (A × Bor (List ℕ)) ℕ → Read A → Type 0
+Says (Ok (x, rest)) read = read ≡ Ok (x, rest.now)
+Says (Err left) read = read ≡ Err left
+
 -- one thing and then another
 infixl 10 ◌>>=◌
 abbrev pub ◌>>=◌ : {A B : Type 0} → Result A ℕ → (A → Result B ℕ) → Result B ℕ
@@ -35,12 +41,16 @@ is_blank c = c == 32 || c == 9 || c == 13
 abbrev pub past_blanks : List ℕ → List ℕ
 past_blanks bytes = drop (prefix_len is_blank bytes) bytes
 
+-- one of the ten digits
+abbrev pub is_decimal : ℕ → Bool
+is_decimal c = nat_le 48 c && nat_le c 57
+
 -- a letter or `_`
 abbrev pub begins_name : ℕ → Bool
 begins_name c = (nat_le 97 c && nat_le c 122) || (nat_le 65 c && nat_le c 90) || c == 95
 
 abbrev pub is_in_name : ℕ → Bool
-is_in_name c = begins_name c || is_digit c 10
+is_in_name c = begins_name c || is_decimal c
 
 -- a byte of its own
 abbrev pub mark_at : ℕ → {A : Type 0} → A → List ℕ → Read A
@@ -51,13 +61,13 @@ abbrev pub two_digits : ℕ → ℕ → ℕ
 two_digits a b = (a - 48) * 10 + (b - 48)
 
 abbrev pub is_two_digits : ℕ → ℕ → Bool
-is_two_digits a b = not (a == 48) && is_digit b 10 && nat_lt (two_digits a b) 32
+is_two_digits a b = not (a == 48) && is_decimal b && nat_lt (two_digits a b) 32
 
 unfoldable pub register_number_at : List ℕ → Read ℕ
 register_number_at bytes =
     let a = slice_index bytes 0 in
     let b = slice_index bytes 1 in
-    if not (is_digit a 10) then Err (length bytes)
+    if not (is_decimal a) then Err (length bytes)
     else (if is_two_digits a b then Ok (two_digits a b, drop 2 bytes) else Ok (a - 48, drop 1 bytes))
 
 -- a register: `x` and its number
@@ -127,13 +137,16 @@ with_target s bytes = record s { target = Some (record { left = length bytes; le
 abbrev pub field_at : Field → Statement → List ℕ → Read Statement
 field_at f s bytes = number_at bytes >>= λ (number, rest). Ok (with_number f (length bytes) s number, rest)
 
+abbrev pub place_at : Field → Statement → List ℕ → Read Statement
+place_at f s bytes =
+    if begins_name (slice_index bytes 0) then Ok (with_target s bytes, drop (prefix_len is_in_name bytes) bytes)
+    else field_at f s bytes
+
 -- a part of a statement
 unfoldable pub part_at : Part → Statement → List ℕ → Read Statement
 part_at Register s bytes = register_at bytes >>= λ (register, rest). Ok (with_word s register, rest)
 part_at (Number f) s bytes = field_at f s bytes
-part_at (Place f) s bytes =
-    if begins_name (slice_index bytes 0) then Ok (with_target s bytes, drop (prefix_len is_in_name bytes) bytes)
-    else field_at f s bytes
+part_at (Place f) s bytes = place_at f s bytes
 part_at Comma s bytes = mark_at 44 s bytes
 part_at Open s bytes = mark_at 40 s bytes
 part_at Close s bytes = mark_at 41 s bytes
