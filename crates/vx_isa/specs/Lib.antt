@@ -1,2 +1,4 @@
 pub mod Effects
 pub mod Operands
+pub mod Rows
+pub mod Words
