@@ -5,6 +5,8 @@ pub mod LoadingLaws
 pub mod LayoutLaws
 pub mod MemoryLaws
 pub mod LaunchLaws
+pub mod Answerable
+pub mod TextLaws
 pub mod OneOutcome
 pub mod AnswerLaws
 pub mod MeetsLaws

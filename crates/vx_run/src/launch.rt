@@ -12,12 +12,12 @@ ghost use Rattle.std.specs.List.{flat_map};
 ghost use Rattle.first_kernels.specs.FirstValues.{IsLaunchable};
 ghost use Rattle.vx_run.specs.Output.{output_text};
 
+use crate::layout::{lay_out, print_buffers};
 use first_kernels::run::run_kernel;
 use first_kernels::tree::Kernel;
-use crate::layout::{lay_out, print_buffers};
-use vx_words::RunWords;
 use std::alloc::Global;
 use vx_base::{Memory, Text};
+use vx_words::RunWords;
 
 // Runs a kernel over the memory, and gives the text of the buffers that are to be printed.
 fn run_and_print(

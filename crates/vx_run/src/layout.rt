@@ -5,11 +5,11 @@ ghost use Rattle.std.specs.List.{flat_map};
 ghost use Rattle.first_kernels.specs.FirstMemory.{stride};
 ghost use Rattle.vx_run.specs.Layout.{fields_from, padded, shown_text};
 
-use first_kernels::code::stride;
 use crate::output::push_buffer;
-use vx_words::BufWord;
+use first_kernels::code::stride;
 use std::alloc::Global;
 use vx_base::{Memory, Size, Text, get_le};
+use vx_words::BufWord;
 
 // Appends a buffer, and zeros behind it.
 fn push_padded(memory: &mut Vec<u8>, bytes: &[u8], gap: usize) -> Result<(), Memory>

@@ -15,6 +15,7 @@ pub mod output;
 pub mod reading;
 pub mod report;
 pub mod stages;
+pub mod texts;
 
 pub use call::vx;
 pub use report::{Cause, Report};

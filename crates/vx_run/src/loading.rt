@@ -10,9 +10,9 @@ ghost use Rattle.vx_words.specs.declared.run_words.BufWord.{BufWord};
 use crate::reading::read_file;
 use crate::report::{BufferKind, Cause};
 use crate::stages::Stop;
-use vx_words::{BufFrom, BufWord, RunWords};
 use std::alloc::Global;
 use vx_base::{Memory, Text};
+use vx_words::{BufFrom, BufWord, RunWords};
 use vx_world::Files;
 
 fn wrong_length(index: u32, bytes: u32) -> Stop
