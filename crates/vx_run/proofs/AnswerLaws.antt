@@ -9,23 +9,26 @@ use Rattle.vx_run.specs.declared.report.Cause.{Cause}
 use Rattle.vx_run.specs.declared.report.Cause.TheVariants.{Usage, Source, Launch, ReadFault, Missing}
 use Rattle.vx_run.specs.declared.report.LaunchKind.TheVariants.{NoEntry, Arguments}
 use Rattle.item_acts.specs.Tame.{LaunchLeaves}
-use Rattle.vx_run.specs.First.{launch_of}
+use Rattle.first_kernels.specs.First.{launch_of}
 use Rattle.vx_run.specs.Output.{output_text}
 use Rattle.vx_run.specs.declared.report.SourceKind.TheVariants.{Subset}
 use Rattle.vx_run.specs.declared.stages.Stop.{Stop}
 use Rattle.vx_run.specs.declared.stages.Stop.TheVariants as stop
-use Rattle.vx_run.specs.declared.words.BufWord.{BufWord}
-use Rattle.vx_run.specs.declared.words.RunWords.{RunWords}
-use Rattle.vx_run.specs.declared.words.UsageFault.{UsageFault}
-use Rattle.vx_run.specs.declared.words.UsageFault.TheVariants as usage
-use Rattle.vx_run.specs.declared.words.UsageKind.TheVariants.{Command, Form}
-use Rattle.vx_run.specs.FirstText.{IsKernelFile}
-use Rattle.vx_run.specs.FirstTree as tree
-use Rattle.vx_run.specs.Words.{IsRun, IsOrigin, AreNumbersOf}
-use Rattle.vx_run.specs.WordForms.{BeginsRun}
+use Rattle.vx_words.specs.declared.run_words.BufWord.{BufWord}
+use Rattle.vx_words.specs.declared.run_words.RunWords.{RunWords}
+use Rattle.vx_words.specs.declared.usage.UsageFault.{UsageFault}
+use Rattle.vx_words.specs.declared.usage.UsageFault.TheVariants as usage
+use Rattle.first_kernels.specs.FirstText.{IsKernelFile}
+use Rattle.first_kernels.specs.FirstTree as tree
+use Rattle.vx_words.specs.Words.{IsRun, IsOrigin, AreNumbersOf}
+use Rattle.vx_words.specs.declared.command.Command.{Command}
+use Rattle.vx_words.specs.declared.command.Command.TheVariants.{Run, Asm, Dis}
+use Rattle.vx_words.specs.declared.usage.UsageKind.{UsageKind}
+use Rattle.vx_words.specs.Commands as commands
+use Rattle.vx_words.specs.Commands.{IsCommand, IsUsage}
 use Rattle.vx_run.specs.Answers as answers
-use Rattle.vx_run.specs.Answers.{Outcome, Refuses, Prints, bytes_in, first_place, FromArguments, WrongArguments, Runs, FromBuffers, HasEntry, FromEntry, FromSource, NoKernel, HasKernel, FromFile, NoFile, HasFile, FromWords, NoCommand, NoForm, HasForm}
-use Rattle.vx_run.specs.Stages.{StopsAt, ComesTo, StopFaults, StageFaults, StageMisses, ReadsFront, StopsReading, IsRunnable, IsNoKernel, IsPlain, StopsFor}
+use Rattle.vx_run.specs.Answers.{Outcome, Refuses, Prints, bytes_in, first_place, FromArguments, WrongArguments, Runs, FromBuffers, HasEntry, FromEntry, FromSource, NoKernel, HasKernel, FromFile, NoFile, HasFile, FromWords, WrongWords, RightWords}
+use Rattle.vx_run.specs.Stages.{StopsAt, ComesTo, StopFaults, StageFaults, StageMisses, ReadsFront, StopsReading, IsRunnable, IsRunnableCommand, IsNoKernel, IsPlain, StopsFor}
 use Rattle.vx_run.proofs.LoadingLaws.{StopsAt-map}
 
 -- what comes of one stage comes of the one before it
@@ -98,18 +101,17 @@ runnable words c h = record {
   items_few = h.items_few;
 }
 
+-- a command that is read can be carried out
+pub runnable_command : (words : List (List ℕ)) (c : Command) → IsCommand words c → IsRunnableCommand c
+runnable_command words (Run c) (commands.Runs d h) = runnable words c h
+runnable_command words (Asm file) h = tt
+runnable_command words (Dis file) h = tt
+
 -- words that are not read are refused
 pub usage_stops : (held : Option (List Entry)) (words : List (List ℕ)) (fault : UsageFault) (s : Stop) →
-    ((word : ℕ) → fault ≡ usage.Usage word Command → (word ≡ 0) × (¬ (BeginsRun words))) →
-    ((word : ℕ) → fault ≡ usage.Usage word Form → (word ≡ 0) × BeginsRun words × ((c : RunWords) → ¬ (IsRun words c))) →
-    StopsFor fault s → StopsAt (FromWords held words) s
-usage_stops held words (usage.Usage word Command) s command form is =
-    let h = command word refl in
-    subst (StopsAt (FromWords held words)) (sym is) (subst (λ w. FromWords held words (Refuses (Usage w Command))) (sym h.0) (NoCommand h.1))
-usage_stops held words (usage.Usage word Form) s command form is =
-    let h = form word refl in
-    subst (StopsAt (FromWords held words)) (sym is) (subst (λ w. FromWords held words (Refuses (Usage w Form))) (sym h.0) (NoForm h.1 h.2))
-usage_stops held words usage.Memory s command form is = subst (StopsAt (FromWords held words)) (sym is) tt
+    ((word : ℕ) (kind : UsageKind) → fault ≡ usage.Usage word kind → IsUsage words word kind) → StopsFor fault s → StopsAt (FromWords held words) s
+usage_stops held words (usage.Usage word kind) s refused is = subst (StopsAt (FromWords held words)) (sym is) (WrongWords word kind (refused word kind refl))
+usage_stops held words usage.Memory s refused is = subst (StopsAt (FromWords held words)) (sym is) tt
 
 -- another number of arguments is refused
 pub arguments_refused : (c : RunWords) (k : tree.Form) (contents : List (List ℕ)) (given wanted : ℕ) → given ≡ length c.arguments → wanted ≡ length k.parameters → given ≢ wanted →

@@ -8,14 +8,14 @@ use Rattle.vx_base.proofs.NumberLaws.{number_of-same, number_of-whole}
 use Rattle.vx_base.proofs.FieldLaws.{field_of-word}
 use Rattle.item_acts.specs.Tame.{LaunchLeaves}
 use Rattle.vx_run.specs.Answers.{bytes_in}
-use Rattle.vx_run.specs.First.{array_of, launch_of}
-use Rattle.vx_run.specs.FirstMemory.{stride, element_at, HasRun}
-use Rattle.vx_run.specs.FirstTree.{Form}
-use Rattle.vx_run.specs.FirstValues.{bytes_left, words_after, words_at, IsLaunchable}
+use Rattle.first_kernels.specs.First.{array_of, launch_of}
+use Rattle.first_kernels.specs.FirstMemory.{stride, element_at, HasRun}
+use Rattle.first_kernels.specs.FirstTree.{Form}
+use Rattle.first_kernels.specs.FirstValues.{bytes_left, words_after, words_at, IsLaunchable}
 use Rattle.vx_run.specs.Layout.{fields_from, padded, shown_text}
 use Rattle.vx_run.specs.Output.{buffer_text, name_of, words_of}
-use Rattle.vx_run.specs.declared.words.BufWord.{BufWord}
-use Rattle.vx_run.proofs.FirstLaunchLeaves.{leaves}
+use Rattle.vx_words.specs.declared.run_words.BufWord.{BufWord}
+use Rattle.first_kernels.proofs.FirstLaunchLeaves.{leaves}
 use Rattle.vx_run.proofs.MemoryLaws.{AreWhole, element_of, contents_are_bytes}
 
 -- functions that agree on numbers below a bound agree on a range below it

@@ -10,11 +10,11 @@ use Rattle.vx_run.specs.declared.report.Cause.{Cause}
 use Rattle.vx_run.specs.declared.report.Cause.TheVariants.{Done, Usage, Source, Launch, Buffer, Trap, Stuck, Turns, ReadFault, WriteFault, Memory, Missing}
 use Rattle.vx_run.specs.declared.stages.Stop.{Stop}
 use Rattle.vx_run.specs.declared.stages.Stop.TheVariants as stop
-use Rattle.vx_run.specs.declared.words.BufFrom.{BufFrom}
-use Rattle.vx_run.specs.declared.words.BufFrom.TheVariants.{File, Zero}
-use Rattle.vx_run.specs.declared.words.BufWord.{BufWord}
-use Rattle.vx_run.specs.declared.words.RunWords.{RunWords}
-use Rattle.vx_run.specs.FirstTree.{Form}
+use Rattle.vx_words.specs.declared.run_words.BufFrom.{BufFrom}
+use Rattle.vx_words.specs.declared.run_words.BufFrom.TheVariants.{File, Zero}
+use Rattle.vx_words.specs.declared.run_words.BufWord.{BufWord}
+use Rattle.vx_words.specs.declared.run_words.RunWords.{RunWords}
+use Rattle.first_kernels.specs.FirstTree.{Form}
 use Rattle.vx_run.specs.Answers.{Outcome, Refuses, Holds, Brings, counted_bytes, FromBuffers, NoBufferFile, WrongLength, NextBuffer, NoBuffers}
 use Rattle.vx_run.specs.Stages.{IsRefusal, StopsAt, ReadsFront, StopsReading}
 

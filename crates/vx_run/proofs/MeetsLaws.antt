@@ -5,19 +5,21 @@ use Rattle.vx_base.specs.declared.types.Pos.{Pos}
 use Rattle.vx_world.specs.Counts.{Rose}
 use Rattle.vx_world.specs.Writing.{Appends}
 use Rattle.vx_world.specs.declared.reading.Entry.{Entry}
-use Rattle.vx_run.specs.declared.words.BufWord.{BufWord}
-use Rattle.vx_run.specs.declared.words.RunWords.{RunWords}
-use Rattle.vx_run.specs.declared.words.UsageKind.{UsageKind}
-use Rattle.vx_run.specs.FirstTree.{Form}
+use Rattle.vx_words.specs.declared.run_words.BufWord.{BufWord}
+use Rattle.vx_words.specs.declared.run_words.RunWords.{RunWords}
+use Rattle.vx_words.specs.declared.usage.UsageKind.{UsageKind}
+use Rattle.first_kernels.specs.FirstTree.{Form}
 use Rattle.vx_run.specs.declared.report.Cause.{Cause}
 use Rattle.vx_run.specs.declared.report.Cause.TheVariants.{Done, Usage, Source, Launch, Buffer, Trap, Stuck, Turns, ReadFault, WriteFault, Memory, Missing}
 use Rattle.vx_run.specs.declared.report.Report.{Report}
-use Rattle.vx_run.specs.Answers.{Outcome, Refuses, Prints, FromWords, FromFile, FromSource, FromEntry, FromBuffers, FromArguments, NoCommand, NoForm, HasForm, NoFile, HasFile, NoKernel, HasKernel, NoEntry, HasEntry, NoBuffers, NoBufferFile, WrongLength, NextBuffer, WrongArguments, Runs}
+use Rattle.vx_run.specs.Answers.{Outcome, Refuses, Prints, FromWords, FromFile, FromSource, FromEntry, FromBuffers, FromArguments, WrongWords, RightWords, most_assembly, most_word_text, NoFile, HasFile, NoKernel, HasKernel, NoEntry, HasEntry, NoBuffers, NoBufferFile, WrongLength, NextBuffer, WrongArguments, Runs}
 use Rattle.vx_run.specs.Delivery.{AppendsSome, IsReportOf, Delivers, WholeText, SinkFailed, NoMemory}
 use Rattle.vx_run.specs.Lines.{line_of, status_of}
 use Rattle.vx_run.specs.Meets as promises
 use Rattle.vx_run.specs.Meets.{Outside, IsTold, EndsFor, EndsUnread, AnswerText, PrintedText, RefusalLine, FaultLine, IsRefused, IsPrefix, VxMeets}
 use Rattle.vx_run.specs.Stages.{IsRefusal, CausesFaults, CausesMisses}
+use Rattle.vx_words.specs.declared.command.Command.TheVariants.{Run, Asm, Dis}
+use Rattle.vx_run.proofs.Answerable.{IsAnswerable, MayBe, of_text, of_text_may}
 use Rattle.vx_run.proofs.OneOutcome.{Agree, one_outcome, one_usage}
 
 -- a refusal is a fault of a read, or one that the call comes to
@@ -33,25 +35,6 @@ module _ (held : Option (List Entry)) (words : List (List ℕ)) where
         CausesMisses c before.misses now.misses → Ended before now report
     AtSink : report.cause ≡ WriteFault 1 → Rose before.write_faults now.write_faults → Ended before now report
     AtMemory : report.cause ≡ Memory → Ended before now report
-
--- the causes for which a call may be refused
-abbrev pub IsAnswerable : Cause → Type 0
-IsAnswerable Done = ⊥
-IsAnswerable (Usage word kind) = Unit {0}
-IsAnswerable (Source pos kind) = Unit {0}
-IsAnswerable (Launch index kind) = Unit {0}
-IsAnswerable (Buffer index kind) = Unit {0}
-IsAnswerable (Trap launch pos item) = ⊥
-IsAnswerable (Stuck launch core waiting ended) = ⊥
-IsAnswerable (Turns launch core group count) = ⊥
-IsAnswerable (ReadFault faults) = ⊥
-IsAnswerable (WriteFault faults) = ⊥
-IsAnswerable Memory = ⊥
-IsAnswerable (Missing name) = Unit {0}
-
-abbrev pub MayBe : Outcome → Type 0
-MayBe (Refuses c) = IsAnswerable c
-MayBe (Prints text) = Unit {0}
 
 module _ (held : Option (List Entry)) where
   may_arguments : (c : RunWords) (k : Form) (contents : List (List ℕ)) (o : Outcome) → FromArguments c k contents o → MayBe o
@@ -78,9 +61,10 @@ module _ (held : Option (List Entry)) where
 
   -- a call comes to such a refusal, or prints
   pub may_be : (words : List (List ℕ)) (o : Outcome) → FromWords held words o → MayBe o
-  may_be words o (NoCommand other) = tt
-  may_be words o (NoForm run none) = tt
-  may_be words o (HasForm c q is h) = may_file c o h
+  may_be words o (WrongWords word kind is) = tt
+  may_be words o (RightWords (Run c) q is h) = may_file c o h
+  may_be words o (RightWords (Asm file) q is h) = of_text_may o (of_text held file most_assembly _ o h)
+  may_be words o (RightWords (Dis file) q is h) = of_text_may o (of_text held file most_word_text _ o h)
 
 -- where the files tell, a refusal is the only outcome
 told_agree : (held : Option (List Entry)) (words : List (List ℕ)) → IsTold held → (c : Cause) → IsRefused held words c → (o : Outcome) → FromWords held words o → Agree (Refuses c) o

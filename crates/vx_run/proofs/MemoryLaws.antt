@@ -8,8 +8,8 @@ use Rattle.std.specs.List.{AllByRecursion, flat_map, range_with_len}
 use Rattle.vx_base.specs.Bytes.{byte_of, number_of, field_of}
 use Rattle.vx_base.proofs.NumberLaws.{number_of-same}
 use Rattle.vx_run.specs.Answers.{bytes_in}
-use Rattle.vx_run.specs.FirstMemory.{stride, element_at}
-use Rattle.vx_run.specs.FirstValues.{words_at}
+use Rattle.first_kernels.specs.FirstMemory.{stride, element_at}
+use Rattle.first_kernels.specs.FirstValues.{words_at}
 use Rattle.vx_run.specs.Layout.{padded}
 
 -- a buffer fits between its beginning and the next

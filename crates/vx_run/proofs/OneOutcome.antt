@@ -1,24 +1,25 @@
 -- A call whose files tell what they have comes to one refusal at most, or only to texts that it prints.
-use Rattle.std.proofs.Common.{◌≡◌, ◌≢◌, ℕ, suc, ◌*◌, List, [], ◌∷◌, ◌++◌, length, Some, refl, ap, sym, ◌∙◌, subst, arith, codes, map}
+use Rattle.std.proofs.Common.{◌≡◌, ◌≢◌, ℕ, suc, ◌*◌, ◌<◌, ◌≤◌, List, [], ◌∷◌, ◌++◌, length, Some, refl, ap, sym, ◌∙◌, subst, arith, codes, map}
 use Rattle.std.specs.Prelude.{Option, None}
 use Rattle.vx_world.specs.declared.reading.Entry.{Entry}
 use Rattle.vx_world.specs.Reading.{bytes_named}
 use Rattle.vx_run.specs.declared.report.BufferKind.TheVariants as buffer
 use Rattle.vx_run.specs.declared.report.Cause.{Cause}
 use Rattle.vx_run.specs.declared.report.Cause.TheVariants as cause
-use Rattle.vx_run.specs.declared.words.BufFrom.{BufFrom}
-use Rattle.vx_run.specs.declared.words.BufFrom.TheVariants.{File, Zero}
-use Rattle.vx_run.specs.declared.words.BufWord.{BufWord}
-use Rattle.vx_run.specs.declared.words.RunWords.{RunWords}
-use Rattle.vx_run.specs.declared.words.UsageKind.{UsageKind}
-use Rattle.vx_run.specs.FirstText.{IsKernelFile}
-use Rattle.vx_run.specs.FirstReading.{form_of_text}
-use Rattle.vx_run.specs.FirstTree.{Form}
-use Rattle.vx_run.specs.Words.{IsRun}
-use Rattle.vx_run.specs.WordForms.{BeginsRun}
-use Rattle.vx_run.specs.Answers.{Outcome, Refuses, Prints, Brings, counted_bytes, FromArguments, WrongArguments, Runs, FromBuffers, NoBuffers, NoBufferFile, WrongLength, NextBuffer, FromEntry, NoEntry, HasEntry, FromSource, NoKernel, HasKernel, FromFile, NoFile, HasFile, FromWords, NoCommand, NoForm, HasForm}
-use Rattle.vx_run.proofs.FirstTexts.{text_again}
-use Rattle.vx_run.proofs.RunMeaning.{IsRun-same}
+use Rattle.vx_words.specs.declared.run_words.BufFrom.{BufFrom}
+use Rattle.vx_words.specs.declared.run_words.BufFrom.TheVariants.{File, Zero}
+use Rattle.vx_words.specs.declared.run_words.BufWord.{BufWord}
+use Rattle.vx_words.specs.declared.run_words.RunWords.{RunWords}
+use Rattle.vx_words.specs.declared.usage.UsageKind.{UsageKind}
+use Rattle.first_kernels.specs.FirstText.{IsKernelFile}
+use Rattle.first_kernels.specs.FirstReading.{form_of_text}
+use Rattle.first_kernels.specs.FirstTree.{Form}
+use Rattle.vx_words.specs.declared.command.Command.{Command}
+use Rattle.vx_words.specs.declared.command.Command.TheVariants.{Run, Asm, Dis}
+use Rattle.vx_run.specs.Answers.{Outcome, Refuses, Prints, Brings, counted_bytes, FromArguments, WrongArguments, Runs, FromBuffers, NoBuffers, NoBufferFile, WrongLength, NextBuffer, FromEntry, NoEntry, HasEntry, FromSource, NoKernel, HasKernel, FromFile, NoFile, HasFile, FromBytes, TooLong, BadText, GoodText, FromText, NoText, HasText, FromCommand, most_assembly, most_word_text, FromWords, WrongWords, RightWords}
+use Rattle.first_kernels.proofs.FirstTexts.{text_again}
+use Rattle.vx_words.proofs.OneReading.{command_same, command_usage, usage_same}
+use Rattle.vx_run.proofs.Answerable.{of_text}
 
 -- two outcomes are one refusal, or both print
 abbrev pub Agree : Outcome → Outcome → Type 0
@@ -33,13 +34,12 @@ some_same o x y e f = cc
 some_none : {X : Type 0} (o : Option X) (x : X) → o ≡ Some x → o ≡ None → ⊥
 some_none o x e f = cc
 
--- the first word of words that are read is the command
-begins : (words : List (List ℕ)) (c : RunWords) → IsRun words c → BeginsRun words
-begins words c h = subst BeginsRun (sym h.spelled) refl
-
 -- a text is of one kernel
 one_kernel : (bytes : List ℕ) (k l : Form) → IsKernelFile bytes k → IsKernelFile bytes l → k ≡ l
 one_kernel bytes k l h h' = some_same (form_of_text bytes) k l (text_again bytes k h.text) (text_again bytes l h'.text)
+
+same_usage : (word other : ℕ) (kind kind' : UsageKind) → (word ≡ other) × (kind ≡ kind') → cause.Usage word kind ≡ cause.Usage other kind'
+same_usage word other kind kind' h = ap (λ (w : ℕ). cause.Usage w kind) h.0 ∙ ap (λ (k : UsageKind). cause.Usage other k) h.1
 
 module _ (entries : List Entry) where
   abbrev told : Option (List Entry)
@@ -108,18 +108,42 @@ module _ (entries : List Entry) where
   one_file c o p (HasFile bytes q there h) (HasFile bytes' q' there' h') =
       one_source c bytes o p h (subst (λ x. FromSource told c x p) (some_same (bytes_named entries c.file) bytes' bytes there' there) h')
 
+  one_refusal : (o : Outcome) (c d : Cause) → o ≡ Refuses c → o ≡ Refuses d → c ≡ d
+  one_refusal o c d e f = cc
+
+  not_both : (o : Outcome) (c : Cause) (text : List ℕ) → o ≡ Refuses c → o ≡ Prints text → ⊥
+  not_both o c text e f = cc
+
+  one_bytes : (limit : ℕ) (outcome : List ℕ → Outcome) (bytes : List ℕ) (o p : Outcome) → FromBytes limit outcome bytes o → FromBytes limit outcome bytes p → Agree o p
+  one_bytes limit outcome bytes o p (TooLong long) (TooLong long') = refl
+  one_bytes limit outcome bytes o p (TooLong long) (BadText pos kind few e) = absurd (omega (arith, long, few))
+  one_bytes limit outcome bytes o p (TooLong long) (GoodText text few e) = absurd (omega (arith, long, few))
+  one_bytes limit outcome bytes o p (BadText pos kind few e) (TooLong long) = absurd (omega (arith, long, few))
+  one_bytes limit outcome bytes o p (BadText pos kind few e) (BadText pos' kind' few' f) = one_refusal (outcome bytes) _ _ e f
+  one_bytes limit outcome bytes o p (BadText pos kind few e) (GoodText text few' f) = not_both (outcome bytes) _ _ e f
+  one_bytes limit outcome bytes o p (GoodText text few e) (TooLong long) = absurd (omega (arith, long, few))
+  one_bytes limit outcome bytes o p (GoodText text few e) (BadText pos kind few' f) = not_both (outcome bytes) _ _ f e
+  one_bytes limit outcome bytes o p (GoodText text few e) (GoodText text' few' f) = tt
+
+  one_text : (file : List ℕ) (limit : ℕ) (outcome : List ℕ → Outcome) (o p : Outcome) → FromText told file limit outcome o → FromText told file limit outcome p → Agree o p
+  one_text file limit outcome o p (NoText none) (NoText none') = refl
+  one_text file limit outcome o p (NoText none) (HasText bytes q there h) = absurd (some_none (bytes_named entries file) bytes there none)
+  one_text file limit outcome o p (HasText bytes q there h) (NoText none) = absurd (some_none (bytes_named entries file) bytes there none)
+  one_text file limit outcome o p (HasText bytes q there h) (HasText bytes' q' there' h') =
+      one_bytes limit outcome bytes o p h (subst (λ x. FromBytes limit outcome x p) (some_same (bytes_named entries file) bytes' bytes there' there) h')
+
+  one_command : (c : Command) (o p : Outcome) → FromCommand told c o → FromCommand told c p → Agree o p
+  one_command (Run c) o p h h' = one_file c o p h h'
+  one_command (Asm file) o p h h' = one_text file most_assembly _ o p h h'
+  one_command (Dis file) o p h h' = one_text file most_word_text _ o p h h'
+
   -- two outcomes of one call agree
   pub one_outcome : (words : List (List ℕ)) (o p : Outcome) → FromWords told words o → FromWords told words p → Agree o p
-  one_outcome words o p (NoCommand other) (NoCommand other') = refl
-  one_outcome words o p (NoCommand other) (NoForm run none) = absurd (other run)
-  one_outcome words o p (NoCommand other) (HasForm c q is h) = absurd (other (begins words c is))
-  one_outcome words o p (NoForm run none) (NoCommand other) = absurd (other run)
-  one_outcome words o p (NoForm run none) (NoForm run' none') = refl
-  one_outcome words o p (NoForm run none) (HasForm c q is h) = absurd (none c is)
-  one_outcome words o p (HasForm c q is h) (NoCommand other) = absurd (other (begins words c is))
-  one_outcome words o p (HasForm c q is h) (NoForm run none) = absurd (none c is)
-  one_outcome words o p (HasForm c q is h) (HasForm c' q' is' h') =
-      one_file c o p h (subst (λ x. FromFile told x p) (IsRun-same words c' c is' is) h')
+  one_outcome words o p (WrongWords word kind is) (WrongWords word' kind' is') = same_usage word word' kind kind' (usage_same words word word' kind kind' is is')
+  one_outcome words o p (WrongWords word kind is) (RightWords c q is' h) = absurd (command_usage words c word kind is' is)
+  one_outcome words o p (RightWords c q is h) (WrongWords word kind is') = absurd (command_usage words c word kind is is')
+  one_outcome words o p (RightWords c q is h) (RightWords c' q' is' h') =
+      one_command c o p h (subst (λ x. FromCommand told x p) (command_same words c' c is' is) h')
 
 -- no stage behind the words refuses them
 module _ (held : Option (List Entry)) (word : ℕ) (kind : UsageKind) where
@@ -136,13 +160,14 @@ module _ (held : Option (List Entry)) (word : ℕ) (kind : UsageKind) where
   no_usage_file : (c : RunWords) → FromFile held c (Refuses (cause.Usage word kind)) → ⊥
   no_usage_file c (HasFile bytes q there h) = no_usage_source c bytes h
 
+  no_usage_command : (c : Command) → FromCommand held c (Refuses (cause.Usage word kind)) → ⊥
+  no_usage_command (Run c) h = no_usage_file c h
+  no_usage_command (Asm file) h = of_text held file most_assembly _ _ h
+  no_usage_command (Dis file) h = of_text held file most_word_text _ _ h
+
 -- refused words come to nothing else, whatever the files tell
 pub one_usage : (held : Option (List Entry)) (words : List (List ℕ)) (word : ℕ) (kind : UsageKind) (o : Outcome) → FromWords held words (Refuses (cause.Usage word kind)) → FromWords held words o →
     Agree (Refuses (cause.Usage word kind)) o
-one_usage held words word kind o (NoCommand other) (NoCommand other') = refl
-one_usage held words word kind o (NoCommand other) (NoForm run none) = absurd (other run)
-one_usage held words word kind o (NoCommand other) (HasForm c q is h) = absurd (other (begins words c is))
-one_usage held words word kind o (NoForm run none) (NoCommand other) = absurd (other run)
-one_usage held words word kind o (NoForm run none) (NoForm run' none') = refl
-one_usage held words word kind o (NoForm run none) (HasForm c q is h) = absurd (none c is)
-one_usage held words word kind o (HasForm c q is h) h' = absurd (no_usage_file held word kind c h)
+one_usage held words word kind o (WrongWords w k is) (WrongWords word' kind' is') = same_usage word word' kind kind' (usage_same words word word' kind kind' is is')
+one_usage held words word kind o (WrongWords w k is) (RightWords c q is' h) = absurd (command_usage words c word kind is' is)
+one_usage held words word kind o (RightWords c q is h) h' = absurd (no_usage_command held word kind c h)

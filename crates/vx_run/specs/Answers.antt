@@ -1,23 +1,32 @@
-use Rattle.std.specs.Prelude.{◌≡◌, ◌≢◌, ℕ, suc, ◌+◌, ◌-◌, ◌*◌, ◌^◌, min, Option, Some, None, List, [], ◌∷◌, ◌++◌, length, replicate, slice_index, slice_index_or}
+use Rattle.std.specs.Prelude.{◌≡◌, ◌≢◌, ℕ, suc, ◌+◌, ◌-◌, ◌*◌, ◌^◌, ◌<◌, ◌≤◌, min, Result, Ok, Err, Option, Some, None, List, [], ◌∷◌, ◌++◌, length, replicate, slice_index, slice_index_or}
 use Rattle.vx_base.specs.declared.types.Pos.{Pos}
 use Rattle.item_acts.specs.Tame.{LaunchLeaves}
 use Rattle.vx_world.specs.declared.reading.Entry.{Entry}
 use Rattle.vx_world.specs.Reading.{bytes_named}
-use Rattle.vx_run.specs.declared.words.UsageKind.TheVariants as usage
-use Rattle.vx_run.specs.declared.words.BufFrom.{BufFrom}
-use Rattle.vx_run.specs.declared.words.BufFrom.TheVariants.{File, Zero}
-use Rattle.vx_run.specs.declared.words.BufWord.{BufWord}
-use Rattle.vx_run.specs.declared.words.RunWords.{RunWords}
+use Rattle.vx_words.specs.declared.run_words.BufFrom.{BufFrom}
+use Rattle.vx_words.specs.declared.run_words.BufFrom.TheVariants.{File, Zero}
+use Rattle.vx_words.specs.declared.run_words.BufWord.{BufWord}
+use Rattle.vx_words.specs.declared.run_words.RunWords.{RunWords}
+use Rattle.vx_words.specs.declared.command.Command.{Command}
+use Rattle.vx_words.specs.declared.command.Command.TheVariants.{Run, Asm, Dis}
+use Rattle.vx_words.specs.declared.usage.UsageKind.{UsageKind}
+use Rattle.vx_words.specs.Commands.{IsCommand, IsUsage}
+use Rattle.asm_text.specs.declared.hexadecimal.HexFault.{HexFault}
+use Rattle.asm_text.specs.declared.hexadecimal.HexFault.TheVariants as hex
+use Rattle.asm_text.specs.declared.statements.AsmFault.{AsmFault}
+use Rattle.asm_text.specs.declared.statements.AsmFault.TheVariants as asm
+use Rattle.asm_text.specs.AsmTexts.{assembled}
+use Rattle.asm_text.specs.HexLines.{hex_lines, hex_words_of}
+use Rattle.asm_text.specs.Disassembly.{disassembly}
+use Rattle.vx_run.specs.declared.report.SourceKind.{SourceKind}
 use Rattle.vx_run.specs.declared.report.SourceKind.TheVariants as source
 use Rattle.vx_run.specs.declared.report.LaunchKind.TheVariants as launch
 use Rattle.vx_run.specs.declared.report.BufferKind.TheVariants as buffer
 use Rattle.vx_run.specs.declared.report.Cause.{Cause}
 use Rattle.vx_run.specs.declared.report.Cause.TheVariants as cause
-use Rattle.vx_run.specs.Words.{IsRun}
-use Rattle.vx_run.specs.WordForms.{BeginsRun}
-use Rattle.vx_run.specs.FirstTree.{Form}
-use Rattle.vx_run.specs.First.{launch_of}
-use Rattle.vx_run.specs.FirstText.{IsKernelFile}
+use Rattle.first_kernels.specs.FirstTree.{Form}
+use Rattle.first_kernels.specs.First.{launch_of}
+use Rattle.first_kernels.specs.FirstText.{IsKernelFile}
 use Rattle.vx_run.specs.Output.{output_text}
 
 -- What the words and the files of a call come to: it is refused for a cause, or it prints a text.
@@ -83,9 +92,62 @@ pub data FromFile (held : Option (List Entry)) (c : RunWords) : Outcome → Type
   NoFile : Holds held c.file None → FromFile held c (Refuses (cause.Missing c.file))
   HasFile : (bytes : List ℕ) (o : Outcome) → Holds held c.file (Some bytes) → FromSource held c bytes o → FromFile held c o
 
--- What a call with these words over these files comes to, where no read fails: first by its words, then by the kernel's
--- file, its text, the entry, the buffers in order, the arguments, and the run.
+-- why an assembly text is refused, and a text of words; want of memory is no refusal of a text
+abbrev pub asm_cause : AsmFault → Cause
+asm_cause (asm.Syntax pos) = cause.Source pos source.Syntax
+asm_cause (asm.Range pos) = cause.Source pos source.Range
+asm_cause (asm.NoLabel pos) = cause.Source pos source.NoLabel
+asm_cause (asm.LabelTwice pos) = cause.Source pos source.LabelTwice
+asm_cause (asm.TooLarge pos words) = cause.Source pos (source.Words words)
+asm_cause asm.Memory = cause.Memory
+
+abbrev pub hex_cause : HexFault → Cause
+hex_cause (hex.Syntax pos) = cause.Source pos source.Syntax
+hex_cause (hex.TooLarge pos words) = cause.Source pos (source.Words words)
+hex_cause hex.Memory = cause.Memory
+
+-- an assembly text's words are printed, and those of a text of words as an assembly text
+abbrev pub assembly_outcome : Result (List ℕ) AsmFault → Outcome
+assembly_outcome (Ok words) = Prints (hex_lines words)
+assembly_outcome (Err fault) = Refuses (asm_cause fault)
+
+abbrev pub disassembly_outcome : Result (List ℕ) HexFault → Outcome
+disassembly_outcome (Ok words) = Prints (disassembly words)
+disassembly_outcome (Err fault) = Refuses (hex_cause fault)
+
+abbrev pub assembly_text_outcome : List ℕ → Outcome
+assembly_text_outcome bytes = assembly_outcome (assembled bytes)
+
+abbrev pub word_text_outcome : List ℕ → Outcome
+word_text_outcome bytes = disassembly_outcome (hex_words_of bytes)
+
+-- the bytes of a text: they are few enough, and then the text has a fault or is told in its other form
+pub data FromBytes (limit : ℕ) (outcome : List ℕ → Outcome) (bytes : List ℕ) : Outcome → Type 0 where
+  TooLong : limit < length bytes → FromBytes limit outcome bytes (Refuses (cause.Source first_place source.TooLong))
+  BadText : (pos : Pos) (kind : SourceKind) → length bytes ≤ limit → outcome bytes ≡ Refuses (cause.Source pos kind) → FromBytes limit outcome bytes (Refuses (cause.Source pos kind))
+  GoodText : (text : List ℕ) → length bytes ≤ limit → outcome bytes ≡ Prints text → FromBytes limit outcome bytes (Prints text)
+
+-- a text's file: it is there
+pub data FromText (held : Option (List Entry)) (file : List ℕ) (limit : ℕ) (outcome : List ℕ → Outcome) : Outcome → Type 0 where
+  NoText : Holds held file None → FromText held file limit outcome (Refuses (cause.Missing file))
+  HasText : (bytes : List ℕ) (o : Outcome) → Holds held file (Some bytes) → FromBytes limit outcome bytes o → FromText held file limit outcome o
+
+-- the most bytes of an assembly text, and of a text of words
+abbrev pub most_assembly : ℕ
+most_assembly = 2097152
+
+abbrev pub most_word_text : ℕ
+most_word_text = 1048576
+
+-- what a command comes to
+abbrev pub FromCommand : Option (List Entry) → Command → Outcome → Type 0
+FromCommand held (Run c) o = FromFile held c o
+FromCommand held (Asm file) o = FromText held file most_assembly assembly_text_outcome o
+FromCommand held (Dis file) o = FromText held file most_word_text word_text_outcome o
+
+-- What a call with these words over these files comes to, where no read fails: first by its words, and then by what they
+-- ask for. `run` comes to what the kernel's file, its text, the entry, the buffers in order, the arguments and the run
+-- say; `asm` and `dis` to what their file and its text say.
 pub data FromWords (held : Option (List Entry)) (words : List (List ℕ)) : Outcome → Type 0 where
-  NoCommand : (¬ (BeginsRun words)) → FromWords held words (Refuses (cause.Usage 0 usage.Command))
-  NoForm : BeginsRun words → ((c : RunWords) → IsRun words c → ⊥) → FromWords held words (Refuses (cause.Usage 0 usage.Form))
-  HasForm : (c : RunWords) (o : Outcome) → IsRun words c → FromFile held c o → FromWords held words o
+  WrongWords : (word : ℕ) (kind : UsageKind) → IsUsage words word kind → FromWords held words (Refuses (cause.Usage word kind))
+  RightWords : (c : Command) (o : Outcome) → IsCommand words c → FromCommand held c o → FromWords held words o

@@ -1,9 +1,9 @@
 use Rattle.std.specs.Prelude.{ℕ, ◌+◌, ◌-◌, ◌*◌, List, ◌++◌, map, replicate}
 use Rattle.std.specs.List.{range_with_len}
 use Rattle.vx_base.specs.Bytes.{field_of}
-use Rattle.vx_run.specs.FirstMemory.{stride}
+use Rattle.first_kernels.specs.FirstMemory.{stride}
 use Rattle.vx_run.specs.Output.{buffer_text, name_of}
-use Rattle.vx_run.specs.declared.words.BufWord.{BufWord}
+use Rattle.vx_words.specs.declared.run_words.BufWord.{BufWord}
 
 -- a buffer with the zeros behind it
 abbrev pub padded : ℕ → List ℕ → List ℕ

@@ -1,17 +1,4 @@
-pub mod FirstTree
-pub mod Names
-pub mod FirstText
-pub mod Words
 pub mod Lines
-pub mod WordForms
-pub mod FirstTokens
-pub mod FirstReading
-pub mod First
-pub mod FirstValues
-pub mod FirstMemory
-pub mod FirstLane
-pub mod FirstWarp
-pub mod FirstCode
 pub mod Delivery
 pub mod Output
 pub mod Answers

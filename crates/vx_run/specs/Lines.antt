@@ -1,10 +1,9 @@
 use Rattle.std.specs.Prelude.{ℕ, List, [], ◌∷◌, ◌++◌, codes}
 use Rattle.std.specs.Fmt.{decimal}
 use Rattle.vx_base.specs.Texts.{pos_text}
-use Rattle.vx_run.specs.declared.words.UsageKind.{UsageKind}
-use Rattle.vx_run.specs.declared.words.UsageKind.TheVariants.{Command, Form}
+use Rattle.vx_words.specs.Commands.{usage_kind_text}
 use Rattle.vx_run.specs.declared.report.SourceKind.{SourceKind}
-use Rattle.vx_run.specs.declared.report.SourceKind.TheVariants.{Subset}
+use Rattle.vx_run.specs.declared.report.SourceKind.TheVariants.{TooLong, Subset, Syntax, Range, NoLabel, LabelTwice, Words}
 use Rattle.vx_run.specs.declared.report.LaunchKind.{LaunchKind}
 use Rattle.vx_run.specs.declared.report.LaunchKind.TheVariants.{NoEntry, Arguments}
 use Rattle.vx_run.specs.declared.report.BufferKind.{BufferKind}
@@ -16,12 +15,14 @@ use Rattle.vx_run.specs.declared.report.Cause.TheVariants.{Done, Usage, Source, 
 abbrev pub newline : List ℕ
 newline = 10 ∷ []
 
-abbrev pub usage_kind_text : UsageKind → List ℕ
-usage_kind_text Command = codes "Command"
-usage_kind_text Form = codes "Form"
-
 abbrev pub source_kind_text : SourceKind → List ℕ
+source_kind_text TooLong = codes "TooLong"
 source_kind_text Subset = codes "Subset"
+source_kind_text Syntax = codes "Syntax"
+source_kind_text Range = codes "Range"
+source_kind_text NoLabel = codes "NoLabel"
+source_kind_text LabelTwice = codes "LabelTwice"
+source_kind_text (Words words) = codes "Words " ++ decimal words
 
 abbrev pub launch_kind_text : LaunchKind → List ℕ
 launch_kind_text NoEntry = codes "NoEntry"

@@ -3,9 +3,9 @@ use Rattle.std.specs.List.{flat_map, range_with_len}
 use Rattle.std.specs.Fmt.{decimal, signed_decimal}
 use Rattle.vx_base.specs.Values.{signed_of}
 use Rattle.vx_run.specs.Lines.{newline}
-use Rattle.vx_run.specs.FirstValues.{words_at}
-use Rattle.vx_run.specs.declared.words.BufWord.{BufWord}
-use Rattle.vx_run.specs.declared.words.RunWords.{RunWords}
+use Rattle.first_kernels.specs.FirstValues.{words_at}
+use Rattle.vx_words.specs.declared.run_words.BufWord.{BufWord}
+use Rattle.vx_words.specs.declared.run_words.RunWords.{RunWords}
 
 -- an int as it is printed
 abbrev pub int_text : ℕ → List ℕ

@@ -5,14 +5,20 @@ use Rattle.vx_run.specs.declared.report.Cause.{Cause}
 use Rattle.vx_run.specs.declared.stages.Stop.{Stop}
 use Rattle.vx_run.specs.declared.stages.Stop.TheVariants.{Refused, Memory}
 use Rattle.vx_world.specs.declared.reading.Entry.{Entry}
-use Rattle.vx_run.specs.declared.words.RunWords.{RunWords}
-use Rattle.vx_run.specs.declared.words.UsageFault.{UsageFault}
-use Rattle.vx_run.specs.declared.words.UsageFault.TheVariants.{Usage, Memory as NoMemory}
+use Rattle.vx_words.specs.declared.run_words.RunWords.{RunWords}
+use Rattle.vx_words.specs.declared.usage.UsageFault.{UsageFault}
+use Rattle.vx_words.specs.declared.usage.UsageFault.TheVariants.{Usage, Memory as NoMemory}
 use Rattle.vx_run.specs.declared.report.SourceKind.TheVariants as source
-use Rattle.vx_run.specs.FirstText.{IsKernelFile}
-use Rattle.vx_run.specs.FirstTree.{Form}
-use Rattle.vx_run.specs.Words.{IsOrigin}
-use Rattle.vx_run.specs.Answers.{Outcome, Refuses, Prints, Holds, first_place}
+use Rattle.first_kernels.specs.FirstText.{IsKernelFile}
+use Rattle.first_kernels.specs.FirstTree.{Form}
+use Rattle.vx_words.specs.Words.{IsOrigin}
+use Rattle.asm_text.specs.declared.hexadecimal.HexFault.{HexFault}
+use Rattle.asm_text.specs.declared.hexadecimal.HexFault.TheVariants as hex
+use Rattle.asm_text.specs.declared.statements.AsmFault.{AsmFault}
+use Rattle.asm_text.specs.declared.statements.AsmFault.TheVariants as asm
+use Rattle.vx_words.specs.declared.command.Command.{Command}
+use Rattle.vx_words.specs.declared.command.Command.TheVariants.{Run, Asm, Dis}
+use Rattle.vx_run.specs.Answers.{Outcome, Refuses, Prints, Holds, first_place, asm_cause, hex_cause}
 
 -- a refusal is one that the call may come to; a read fault is one read that failed
 abbrev pub IsRefusal : (Outcome → Type 0) → Cause → Type 0
@@ -100,3 +106,18 @@ IsPlain Memory = Unit {0}
 abbrev pub StopsFor : UsageFault → Stop → Type 0
 StopsFor (Usage word kind) stop = stop ≡ Refused (cause.Usage word kind)
 StopsFor NoMemory stop = stop ≡ Memory
+
+-- a text that is refused stops the call, and so does want of memory
+abbrev pub StopsForAsm : AsmFault → Stop → Type 0
+StopsForAsm asm.Memory stop = stop ≡ Memory
+StopsForAsm fault stop = stop ≡ Refused (asm_cause fault)
+
+abbrev pub StopsForHex : HexFault → Stop → Type 0
+StopsForHex hex.Memory stop = stop ≡ Memory
+StopsForHex fault stop = stop ≡ Refused (hex_cause fault)
+
+-- what a command is known to be, once its words are read
+abbrev pub IsRunnableCommand : Command → Type 0
+IsRunnableCommand (Run c) = IsRunnable c
+IsRunnableCommand (Asm file) = Unit {0}
+IsRunnableCommand (Dis file) = Unit {0}

@@ -1,21 +1,22 @@
 //! What a call comes to, stage by stage in the order of its answers.
 
 ghost use Rattle.std.specs.Prelude.{◌≡◌, ◌-◌, ◌*◌, ◌^◌, ◌≤◌, ◌↔◌, min, All, length, map, string_bytes, IsTrue, IfOk, IfErr};
-ghost use Rattle.vx_run.specs.Answers.{first_place, FromArguments, FromEntry, FromFile, FromWords};
-ghost use Rattle.vx_run.specs.FirstText.{IsKernelFile, IsWellFormed};
-ghost use Rattle.vx_run.specs.FirstTree.{form_of};
-ghost use Rattle.vx_run.specs.Stages.{ComesTo, IsNoKernel, IsPlain, IsRunnable, StageFaults, StageMisses, StopsFor};
+ghost use Rattle.vx_run.specs.Answers.{first_place, FromArguments, FromCommand, FromEntry, FromFile, FromWords};
+ghost use Rattle.first_kernels.specs.FirstText.{IsKernelFile, IsWellFormed};
+ghost use Rattle.first_kernels.specs.FirstTree.{form_of};
+ghost use Rattle.vx_run.specs.Stages.{ComesTo, IsNoKernel, IsPlain, IsRunnable, IsRunnableCommand, StageFaults, StageMisses, StopsFor};
 
-use crate::first::parser::parse_kernel;
-use crate::first::tree::Kernel;
 use crate::launch::print_launch;
 use crate::loading::load_buffers;
 use crate::reading::read_file;
 use crate::report::{Cause, LaunchKind, SourceKind};
 use crate::stages::Stop;
-use crate::words::{RunWords, UsageFault, read_words};
+use crate::texts::{answer_asm, answer_dis};
+use first_kernels::parser::parse_kernel;
+use first_kernels::tree::Kernel;
 use std::alloc::Global;
 use vx_base::{Memory, Pos, Text};
+use vx_words::{Command, RunWords, UsageFault, read_words};
 use vx_world::Files;
 
 /// The most bytes that a kernel's file may have.
@@ -132,6 +133,20 @@ fn usage_stop(fault: UsageFault) -> Stop
     }
 }
 
+// What the words ask for.
+fn answer_command<F: Files>(alloc: Global, files: &mut F, command: &Command) -> Result<Text, Stop>
+    requires { IsRunnableCommand command.now }
+    ensures comes { ComesTo (FromCommand (F.held files.old) command.now) result }
+    ensures faults { StageFaults result (F.faults files.old) (F.faults files.new) }
+    ensures misses { StageMisses result (F.misses files.old) (F.misses files.new) }
+{
+    match command {
+        Command::Run(run) => answer_file(alloc, files, run),
+        Command::Asm { file } => answer_asm(alloc, files, file),
+        Command::Dis { file } => answer_dis(alloc, files, file),
+    }
+}
+
 /// What a call with these words over these files comes to.
 pub fn answer<F: Files>(alloc: Global, files: &mut F, words: &[String]) -> Result<Text, Stop>
     ensures comes { ComesTo (FromWords (F.held files.old) (map string_bytes words.now)) result }
@@ -139,7 +154,7 @@ pub fn answer<F: Files>(alloc: Global, files: &mut F, words: &[String]) -> Resul
     ensures misses { StageMisses result (F.misses files.old) (F.misses files.new) }
 {
     match read_words(alloc, words) {
-        Ok(run) => answer_file(alloc, files, &run),
+        Ok(command) => answer_command(alloc, files, &command),
         Err(fault) => Err(usage_stop(fault)),
     }
 }

@@ -3,21 +3,21 @@
 ghost use Rattle.std.specs.Prelude.{◌≡◌, ℕ, ◌*◌, ◌≤◌, ◌<◌, All, length, slice_index, IfOk, OnOk};
 ghost use Rattle.item_acts.specs.Tame.{LaunchLeaves};
 ghost use Rattle.vx_run.specs.Answers.{bytes_in};
-ghost use Rattle.vx_run.specs.First.{launch_of};
-ghost use Rattle.vx_run.specs.FirstCode.{AreLow};
-ghost use Rattle.vx_run.specs.FirstMemory.{HasRun, stride};
-ghost use Rattle.vx_run.specs.FirstTree.{form_of};
+ghost use Rattle.first_kernels.specs.First.{launch_of};
+ghost use Rattle.first_kernels.specs.FirstCode.{AreLow};
+ghost use Rattle.first_kernels.specs.FirstMemory.{HasRun, stride};
+ghost use Rattle.first_kernels.specs.FirstTree.{form_of};
 ghost use Rattle.vx_run.specs.Layout.{shown_text};
 ghost use Rattle.std.specs.List.{flat_map};
-ghost use Rattle.vx_run.specs.FirstValues.{IsLaunchable};
+ghost use Rattle.first_kernels.specs.FirstValues.{IsLaunchable};
 ghost use Rattle.vx_run.specs.Output.{output_text};
 
-use crate::first::run::run_kernel;
-use crate::first::tree::Kernel;
 use crate::layout::{lay_out, print_buffers};
-use crate::words::RunWords;
+use first_kernels::run::run_kernel;
+use first_kernels::tree::Kernel;
 use std::alloc::Global;
 use vx_base::{Memory, Text};
+use vx_words::RunWords;
 
 // Runs a kernel over the memory, and gives the text of the buffers that are to be printed.
 fn run_and_print(

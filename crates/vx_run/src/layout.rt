@@ -2,14 +2,14 @@
 
 ghost use Rattle.std.specs.Prelude.{◌≡◌, ◌≤◌, ◌<◌, ◌+◌, ◌*◌, ◌++◌, All, length, replicate, IfOk, OnOk};
 ghost use Rattle.std.specs.List.{flat_map};
-ghost use Rattle.vx_run.specs.FirstMemory.{stride};
+ghost use Rattle.first_kernels.specs.FirstMemory.{stride};
 ghost use Rattle.vx_run.specs.Layout.{fields_from, padded, shown_text};
 
-use crate::first::code::stride;
 use crate::output::push_buffer;
-use crate::words::BufWord;
+use first_kernels::code::stride;
 use std::alloc::Global;
 use vx_base::{Memory, Size, Text, get_le};
+use vx_words::BufWord;
 
 // Appends a buffer, and zeros behind it.
 fn push_padded(memory: &mut Vec<u8>, bytes: &[u8], gap: usize) -> Result<(), Memory>

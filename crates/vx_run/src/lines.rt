@@ -2,24 +2,9 @@ ghost use Rattle.std.specs.Prelude.{◌≡◌, IfOk, IsOk, string_bytes};
 ghost use Rattle.vx_run.specs.Lines.{line_of, status_of};
 
 use crate::report::{BufferKind, Cause, LaunchKind, SourceKind};
-use crate::words::UsageKind;
 use std::alloc::{AllocError, Global};
 use std::fmt;
 use vx_base::{Memory, Pos, Text};
-
-impl fmt::Display for UsageKind {
-    ghost use Rattle.std.specs.Prelude.{Some};
-    ghost use Rattle.vx_run.specs.Lines.{usage_kind_text};
-
-    ghost output = { λ kind. Some (usage_kind_text kind) };
-
-    fn fmt<W: fmt::Write>(&self, f: &mut fmt::Formatter<W>) -> fmt::Result {
-        match self {
-            UsageKind::Command => write!(f, "Command"),
-            UsageKind::Form => write!(f, "Form"),
-        }
-    }
-}
 
 impl fmt::Display for SourceKind {
     ghost use Rattle.std.specs.Prelude.{Some};
@@ -29,7 +14,13 @@ impl fmt::Display for SourceKind {
 
     fn fmt<W: fmt::Write>(&self, f: &mut fmt::Formatter<W>) -> fmt::Result {
         match self {
+            SourceKind::TooLong => write!(f, "TooLong"),
             SourceKind::Subset => write!(f, "Subset"),
+            SourceKind::Syntax => write!(f, "Syntax"),
+            SourceKind::Range => write!(f, "Range"),
+            SourceKind::NoLabel => write!(f, "NoLabel"),
+            SourceKind::LabelTwice => write!(f, "LabelTwice"),
+            SourceKind::Words { words } => write!(f, "Words {words}"),
         }
     }
 }

@@ -2,17 +2,17 @@
 
 ghost use Rattle.std.specs.Prelude.{◌≡◌, ◌*◌, ◌≤◌, ◌<◌, length, replicate, List, [], ◌∷◌, ℕ, All, IfOk, IfErr};
 ghost use Rattle.vx_run.specs.Answers.{Brings, FromArguments, FromBuffers, Outcome};
-ghost use Rattle.vx_run.specs.FirstTree.{Form};
+ghost use Rattle.first_kernels.specs.FirstTree.{Form};
 ghost use Rattle.vx_run.specs.Stages.{StageFaults, StageMisses, StopsAt};
-ghost use Rattle.vx_run.specs.Words.{IsOrigin};
-ghost use Rattle.vx_run.specs.declared.words.BufWord.{BufWord};
+ghost use Rattle.vx_words.specs.Words.{IsOrigin};
+ghost use Rattle.vx_words.specs.declared.run_words.BufWord.{BufWord};
 
 use crate::reading::read_file;
 use crate::report::{BufferKind, Cause};
 use crate::stages::Stop;
-use crate::words::{BufFrom, BufWord, RunWords};
 use std::alloc::Global;
 use vx_base::{Memory, Text};
+use vx_words::{BufFrom, BufWord, RunWords};
 use vx_world::Files;
 
 fn wrong_length(index: u32, bytes: u32) -> Stop

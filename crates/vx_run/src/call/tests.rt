@@ -171,6 +171,45 @@ fn refuses_launches_and_buffers(rt: HostRuntime) -> Result<(), Fail> {
     )
 }
 
+// Instructions and their words.
+const INSTRUCTIONS: &str = "addi x1, x0, 5\nsplit x5\nmul x3, x1, x2\nbar x6, x7\ncsrr x5, 0xcc4\n";
+
+const INSTRUCTION_WORDS: &str = "00500093\n0002a00b\n022081b3\n0073400b\ncc4022f3\n";
+
+#[test]
+fn assembles_and_disassembles(rt: HostRuntime) -> Result<(), Fail> {
+    let alloc = rt.alloc();
+    let places = "beq x1, x2, 8\nsw x2, -4(x1)\nlui x1, 0x12345\njal x0, -4\n";
+    let place_words = "00208463\nfe20ae23\n123450b7\nffdff06f\n";
+    for (words, file, text) in [
+        (["asm", "v.cl"], INSTRUCTIONS, INSTRUCTION_WORDS),
+        (["dis", "v.cl"], INSTRUCTION_WORDS, INSTRUCTIONS),
+        (["asm", "v.cl"], places, place_words),
+        (["asm", "v.cl"], "", ""),
+        (["dis", "v.cl"], "ffffffff\n", ".word 0xffffffff\n"),
+        (["dis", "v.cl"], "0010000b", ".word 0x0010000b\n"),
+    ] {
+        expect_answer(&rt, alloc, &words, file, 0, text)?;
+    }
+    Ok(())
+}
+
+#[test]
+fn refuses_texts_of_words(rt: HostRuntime) -> Result<(), Fail> {
+    let alloc = rt.alloc();
+    for (words, file, line) in [
+        (["asm", "v.cl"], "addi x1, x0, 2048", "source 1:14 Range\n"),
+        (["asm", "v.cl"], "j1: j1:", "source 1:6 Syntax\n"),
+        (["asm", "v.cl"], "a: \na:", "source 2:1 LabelTwice\n"),
+        (["asm", "v.cl"], "jal x0, b", "source 1:9 NoLabel\n"),
+        (["dis", "v.cl"], "0050009", "source 1:8 Syntax\n"),
+    ] {
+        expect_answer(&rt, alloc, &words, file, 2, line)?;
+    }
+    expect_answer(&rt, alloc, &["asm"], "", 1, "usage word 1 Missing\n")?;
+    expect_answer(&rt, alloc, &["dis", "w.cl"], "", 10, "missing w.cl\n")
+}
+
 #[test]
 fn faults_leave_a_front(rt: HostRuntime) -> Result<(), Fail> {
     let whole = b"a int 4\n1 4 7 10\n".as_slice();

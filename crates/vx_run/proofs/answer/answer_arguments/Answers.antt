@@ -1,5 +1,5 @@
 use Rattle.std.proofs.Common.{◌≡◌, length, sym, ◌∙◌}
-use Rattle.vx_run.specs.FirstTree.{form_of}
+use Rattle.first_kernels.specs.FirstTree.{form_of}
 use Rattle.vx_run.proofs.AnswerLaws.{arguments_refused, launch_prints}
 use Rattle.vx_run.proofs.answer.answer_arguments.Goals as goal
 

@@ -2,7 +2,7 @@ use Rattle.std.proofs.Common.{◌≡◌, sym, ◌∙◌, subst}
 use Rattle.std.proofs.lemmas.Bool.{false≢true}
 use Rattle.std.proofs.lemmas.Result.{err_from_is_err_and}
 use Rattle.vx_run.specs.Answers.{FromArguments}
-use Rattle.vx_run.specs.FirstTree.{form_of}
+use Rattle.first_kernels.specs.FirstTree.{form_of}
 use Rattle.vx_run.proofs.AnswerLaws.{ComesTo-map, entry_refused, entry_comes}
 use Rattle.vx_run.proofs.LoadingLaws.{StopsAt-map}
 use Rattle.vx_run.proofs.answer.answer_entry.Goals as goal

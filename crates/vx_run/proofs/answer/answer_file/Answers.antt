@@ -1,8 +1,8 @@
 use Rattle.std.proofs.Common.{◌≡◌, sym, ◌∙◌, subst}
 use Rattle.std.proofs.lemmas.Result.{err_from_is_err_and}
 use Rattle.vx_run.specs.Answers.{FromEntry}
-use Rattle.vx_run.specs.FirstText.{IsKernelFile}
-use Rattle.vx_run.specs.FirstTree.{form_of}
+use Rattle.first_kernels.specs.FirstText.{IsKernelFile}
+use Rattle.first_kernels.specs.FirstTree.{form_of}
 use Rattle.vx_run.specs.Stages.{IsNoKernel}
 use Rattle.vx_run.proofs.AnswerLaws.{ComesTo-map, unread_file, no_kernel_stops, kernel_comes}
 use Rattle.vx_run.proofs.answer.answer_file.Goals as goal

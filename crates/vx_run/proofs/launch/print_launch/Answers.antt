@@ -2,8 +2,8 @@ use Rattle.std.proofs.Common.{◌≡◌, ℕ, ◌*◌, ◌<◌, List, length, ge
 use Rattle.std.specs.Prelude.{Result}
 use Rattle.std.specs.List.{flat_map, AllByRecursion}
 use Rattle.std.proofs.lemmas.List.Elements.{recursion_from_All}
-use Rattle.vx_run.specs.FirstMemory.{stride, HasRun}
-use Rattle.vx_run.specs.FirstTree.{form_of}
+use Rattle.first_kernels.specs.FirstMemory.{stride, HasRun}
+use Rattle.first_kernels.specs.FirstTree.{form_of}
 use Rattle.vx_run.specs.Layout.{padded}
 use Rattle.vx_run.proofs.MemoryLaws.{AreWhole, length-memory}
 use Rattle.vx_run.proofs.LaunchLaws.{left_by, left_bytes, printed}

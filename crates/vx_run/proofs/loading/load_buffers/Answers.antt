@@ -1,7 +1,7 @@
 use Rattle.std.proofs.Common.{◌≡◌, ◌<◌, ◌≤◌, ◌+◌, List, [], ◌∷◌, ◌++◌, length, get_or, drop, subst, sym, ap, ◌∙◌}
 use Rattle.std.proofs.lemmas.List.{drop_all}
 use Rattle.std.proofs.lemmas.Result.{err_from_is_err_and}
-use Rattle.vx_run.specs.declared.words.BufWord.{BufWord}
+use Rattle.vx_words.specs.declared.run_words.BufWord.{BufWord}
 use Rattle.vx_run.specs.Answers.{Brings, FromBuffers, NoBuffers}
 use Rattle.vx_run.specs.Stages.{StopsAt}
 use Rattle.vx_run.proofs.LoadingLaws.{HasLoaded, HasLoaded-next, HasLoaded-stops}

@@ -1,0 +1,10 @@
+pub mod FirstTree
+pub mod FirstText
+pub mod FirstTokens
+pub mod FirstReading
+pub mod First
+pub mod FirstValues
+pub mod FirstMemory
+pub mod FirstLane
+pub mod FirstWarp
+pub mod FirstCode

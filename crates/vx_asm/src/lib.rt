@@ -1,0 +1,11 @@
+//! The assembler: words from a text of assembly, or the first reason why it is none.
+//!
+//! Read first the definitions, `specs/AsmLines.antt` and `specs/AsmTexts.antt` of `asm_text`; each function here names
+//! the one that it meets.
+//!
+//! - `parts`: blanks, names, registers and numbers.
+//! - `lines`: statements and whole lines.
+#![tactic(auto)]
+
+pub mod lines;
+pub mod parts;

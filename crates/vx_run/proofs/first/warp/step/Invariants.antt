@@ -1,5 +1,0 @@
-use Rattle.vx_run.proofs.FirstTogether.{MidStep}
-use Rattle.vx_run.proofs.first.warp.step.Given as goal
-
-abbrev pub invariant-loop-number : goal.invariant-loop-number
-invariant-loop-number l = MidStep l.i l.initial.lanes l.initial.memory l.number l.lanes l.memory

@@ -1,7 +1,0 @@
-use Rattle.std.proofs.Common.{◌≡◌, map, take}
-use Rattle.std.specs.List.{AllByRecursion}
-use Rattle.vx_run.specs.Names.{IsName}
-use Rattle.vx_run.proofs.words.further.read_each.Given as goal
-
-abbrev pub invariant-loop-part : goal.invariant-loop-part
-invariant-loop-part l = AllByRecursion IsName l.items.items × (map (λ part. part.now) (take l.part-index l.parts) ≡ l.items.items)

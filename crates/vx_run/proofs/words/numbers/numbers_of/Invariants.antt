@@ -1,6 +1,0 @@
-use Rattle.std.proofs.Common.{take}
-use Rattle.vx_run.specs.Words.{AreNumbersOf}
-use Rattle.vx_run.proofs.words.numbers.numbers_of.Given as goal
-
-abbrev pub invariant-loop-name : goal.invariant-loop-name
-invariant-loop-name l = AreNumbersOf l.buffers l.items.items (take l.name-index l.names)

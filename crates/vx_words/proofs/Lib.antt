@@ -1,0 +1,9 @@
+pub mod Texts
+pub mod Refusals
+pub mod Lists
+pub mod LaunchTexts
+pub mod FurtherTexts
+pub mod NumberedNames
+pub mod WordParts
+pub mod RunMeaning
+pub mod OneReading

@@ -1,0 +1,183 @@
+-- Words are read in one way.
+use Rattle.std.proofs.Common.{◌≡◌, ℕ, ◌+◌, ◌<◌, ◌≤◌, ◌⊎◌, inl, inr, Result, Ok, Err, List, [], ◌∷◌, length, get_or, refl, sym, ap, ◌∙◌, subst, arith}
+use Rattle.std.specs.Prelude.{codes}
+use Rattle.vx_words.specs.declared.command.Command.{Command}
+use Rattle.vx_words.specs.declared.command.Command.TheVariants.{Run, Asm, Dis}
+use Rattle.vx_words.specs.declared.run_words.RunWords.{RunWords}
+use Rattle.vx_words.specs.declared.usage.UsageKind.{UsageKind}
+use Rattle.std.specs.Result.{IsErrAnd}
+use Rattle.std.proofs.lemmas.Result.{err_from_is_err_and}
+use Rattle.vx_words.specs.declared.usage.UsageKind.TheVariants as usage
+use Rattle.vx_words.specs.declared.usage.UsageFault.{UsageFault}
+use Rattle.vx_words.specs.declared.usage.UsageFault.TheVariants.{Usage, Memory}
+use Rattle.vx_words.specs.Words.{IsRun}
+use Rattle.vx_words.specs.WordForms.{BeginsRun, Finds, IsBadForm}
+use Rattle.vx_words.specs.Commands.{IsFileCommand, BeginsCommand, IsCommand, Runs, Assembles, Disassembles, IsUsage, NoCommand, NoForm, NoFile, FurtherWord, Reads, GivesFile}
+use Rattle.vx_words.proofs.RunMeaning.{IsRun-same}
+
+-- the first byte of the first word
+abbrev head_byte : List (List ℕ) → ℕ
+head_byte words = get_or (get_or words 0 []) 0 0
+
+head_run : (words : List (List ℕ)) → BeginsRun words → head_byte words ≡ 114
+head_run [] h = absurd h
+head_run (word ∷ more) h = ap (λ (w : List ℕ). get_or w 0 0) h
+
+-- the first word of the words of `run` is its name
+pub begins_run : (words : List (List ℕ)) (c : RunWords) → IsRun words c → BeginsRun words
+begins_run words c h = subst BeginsRun (sym h.spelled) refl
+
+no_file_command_is_run : (name : List ℕ) → IsFileCommand name → get_or name 0 0 ≡ 114 → ⊥
+no_file_command_is_run name (inl e) h = let f : get_or name 0 0 ≡ 97 = ap (λ (w : List ℕ). get_or w 0 0) e in omega (arith, f, h)
+no_file_command_is_run name (inr e) h = let f : get_or name 0 0 ≡ 100 = ap (λ (w : List ℕ). get_or w 0 0) e in omega (arith, f, h)
+
+-- words of a command of one file are none of `run`
+apart : (words : List (List ℕ)) (name : List ℕ) (more : List (List ℕ)) → IsFileCommand name → words ≡ name ∷ more → BeginsRun words → ⊥
+apart words name more tool e run =
+    let first : head_byte words ≡ get_or name 0 0 = ap head_byte e in
+    no_file_command_is_run name tool (sym first ∙ head_run words run)
+
+second : (words : List (List ℕ)) (name other file file' : List ℕ) → words ≡ name ∷ file ∷ [] → words ≡ other ∷ file' ∷ [] → file ≡ file'
+second words name other file file' e f = ap (λ (l : List (List ℕ)). get_or l 1 []) (sym e ∙ f)
+
+asm_is_not_dis : (words : List (List ℕ)) (more other : List (List ℕ)) → words ≡ codes "asm" ∷ more → words ≡ codes "dis" ∷ other → ⊥
+asm_is_not_dis words more other e f =
+    let a : head_byte words ≡ 97 = ap head_byte e in
+    let d : head_byte words ≡ 100 = ap head_byte f in
+    omega (arith, a, d)
+
+-- words ask for one thing
+pub command_same : (words : List (List ℕ)) (c d : Command) → IsCommand words c → IsCommand words d → c ≡ d
+command_same words c d (Runs r h) (Runs s k) = ap (λ (x : RunWords). Run x) (IsRun-same words r s h k)
+command_same words c d (Runs r h) (Assembles file e) = absurd (apart words (codes "asm") _ (inl refl) e (begins_run words r h))
+command_same words c d (Runs r h) (Disassembles file e) = absurd (apart words (codes "dis") _ (inr refl) e (begins_run words r h))
+command_same words c d (Assembles file e) (Runs r h) = absurd (apart words (codes "asm") _ (inl refl) e (begins_run words r h))
+command_same words c d (Assembles file e) (Assembles file' f) = ap (λ (x : List ℕ). Asm x) (second words _ _ file file' e f)
+command_same words c d (Assembles file e) (Disassembles file' f) = absurd (asm_is_not_dis words _ _ e f)
+command_same words c d (Disassembles file e) (Runs r h) = absurd (apart words (codes "dis") _ (inr refl) e (begins_run words r h))
+command_same words c d (Disassembles file e) (Assembles file' f) = absurd (asm_is_not_dis words _ _ f e)
+command_same words c d (Disassembles file e) (Disassembles file' f) = ap (λ (x : List ℕ). Dis x) (second words _ _ file file' e f)
+
+begins_command : (words : List (List ℕ)) (c : Command) → IsCommand words c → BeginsCommand words
+begins_command words c (Runs r h) = subst BeginsCommand (sym h.spelled) (inl refl)
+begins_command words c (Assembles file e) = subst BeginsCommand (sym e) (inr (inl refl))
+begins_command words c (Disassembles file e) = subst BeginsCommand (sym e) (inr (inr refl))
+
+lengths : (words : List (List ℕ)) (m n : ℕ) (a b : List (List ℕ)) → words ≡ a → words ≡ b → length a ≡ m → length b ≡ n → m ≡ n
+lengths words m n a b e f g h = sym g ∙ ap length (sym e ∙ f) ∙ h
+
+-- words that ask for something are not refused
+pub command_usage : (words : List (List ℕ)) (c : Command) (word : ℕ) (kind : UsageKind) → IsCommand words c → IsUsage words word kind → ⊥
+command_usage words c word kind h (NoCommand other) = other (begins_command words c h)
+command_usage words c word kind (Runs r h) (NoForm run none) = none r h
+command_usage words c word kind (Assembles file e) (NoForm run none) = apart words (codes "asm") _ (inl refl) e run
+command_usage words c word kind (Disassembles file e) (NoForm run none) = apart words (codes "dis") _ (inr refl) e run
+command_usage words c word kind (Runs r h) (NoFile name tool e) = apart words name _ tool e (begins_run words r h)
+command_usage words c word kind (Assembles file e) (NoFile name tool f) = let l = lengths words 2 1 _ _ e f refl refl in omega (arith, l)
+command_usage words c word kind (Disassembles file e) (NoFile name tool f) = let l = lengths words 2 1 _ _ e f refl refl in omega (arith, l)
+command_usage words c word kind (Runs r h) (FurtherWord name file next more tool e) = apart words name _ tool e (begins_run words r h)
+command_usage words c word kind (Assembles file e) (FurtherWord name file' next more tool f) = let l = lengths words 2 _ _ _ e f refl refl in omega (arith, l)
+command_usage words c word kind (Disassembles file e) (FurtherWord name file' next more tool f) = let l = lengths words 2 _ _ _ e f refl refl in omega (arith, l)
+
+begins_of_run : (words : List (List ℕ)) → BeginsRun words → BeginsCommand words
+begins_of_run [] h = absurd h
+begins_of_run (word ∷ more) h = inl h
+
+begins_of_file : (words : List (List ℕ)) (name : List ℕ) (more : List (List ℕ)) → IsFileCommand name → words ≡ name ∷ more → BeginsCommand words
+begins_of_file words name more tool e = subst BeginsCommand (sym e) (inr tool)
+
+-- words are refused for one thing
+pub usage_same : (words : List (List ℕ)) (word other : ℕ) (kind kind' : UsageKind) → IsUsage words word kind → IsUsage words other kind' → (word ≡ other) × (kind ≡ kind')
+usage_same words word other kind kind' (NoCommand first) (NoCommand second') = (refl, refl)
+usage_same words word other kind kind' (NoCommand other') (NoForm run none) = absurd (other' (begins_of_run words run))
+usage_same words word other kind kind' (NoCommand other') (NoFile name tool e) = absurd (other' (begins_of_file words name _ tool e))
+usage_same words word other kind kind' (NoCommand other') (FurtherWord name file next more tool e) = absurd (other' (begins_of_file words name _ tool e))
+usage_same words word other kind kind' (NoForm run none) (NoCommand other') = absurd (other' (begins_of_run words run))
+usage_same words word other kind kind' (NoForm run none) (NoForm run' none') = (refl, refl)
+usage_same words word other kind kind' (NoForm run none) (NoFile name tool e) = absurd (apart words name _ tool e run)
+usage_same words word other kind kind' (NoForm run none) (FurtherWord name file next more tool e) = absurd (apart words name _ tool e run)
+usage_same words word other kind kind' (NoFile name tool e) (NoCommand other') = absurd (other' (begins_of_file words name _ tool e))
+usage_same words word other kind kind' (NoFile name tool e) (NoForm run none) = absurd (apart words name _ tool e run)
+usage_same words word other kind kind' (NoFile name tool e) (NoFile name' tool' f) = (refl, refl)
+usage_same words word other kind kind' (NoFile name tool e) (FurtherWord name' file next more tool' f) = let l = lengths words 1 _ _ _ e f refl refl in absurd (omega (arith, l))
+usage_same words word other kind kind' (FurtherWord name file next more tool e) (NoCommand other') = absurd (other' (begins_of_file words name _ tool e))
+usage_same words word other kind kind' (FurtherWord name file next more tool e) (NoForm run none) = absurd (apart words name _ tool e run)
+usage_same words word other kind kind' (FurtherWord name file next more tool e) (NoFile name' tool' f) = let l = lengths words _ 1 _ _ e f refl refl in absurd (omega (arith, l))
+usage_same words word other kind kind' (FurtherWord name file next more tool e) (FurtherWord name' file' next' more' tool' f) = (refl, refl)
+
+-- what is read is the only thing that the words ask for
+pub only_read : (words : List (List ℕ)) (r : Result Command UsageFault) → Reads words r → (c : Command) → IsCommand words c → (r ≡ Ok c) ⊎ (r ≡ Err Memory)
+only_read words (Ok d) h c k = inl (ap (λ (x : Command). Ok x) (command_same words d c h k))
+only_read words (Err (Usage word kind)) h c k = absurd (command_usage words c word kind k h)
+only_read words (Err Memory) h c k = inr refl
+
+pub read_fault : (words : List (List ℕ)) (r : Result Command UsageFault) → Reads words r → (word : ℕ) (kind : UsageKind) → r ≡ Err (Usage word kind) → IsUsage words word kind
+read_fault words r h word kind e = subst (Reads words) e h
+
+same_fault : (word other : ℕ) (kind kind' : UsageKind) → (word ≡ other) × (kind ≡ kind') → Usage word kind ≡ Usage other kind'
+same_fault word other kind kind' h = ap (λ (w : ℕ). Usage w kind) h.0 ∙ ap (λ (k : UsageKind). Usage other k) h.1
+
+pub only_fault : (words : List (List ℕ)) (r : Result Command UsageFault) → Reads words r → (word : ℕ) (kind : UsageKind) → IsUsage words word kind → (r ≡ Err (Usage word kind)) ⊎ (r ≡ Err Memory)
+only_fault words (Ok d) h word kind k = absurd (command_usage words d word kind h k)
+only_fault words (Err (Usage word' kind')) h word kind k = inl (ap (λ (f : UsageFault). Err f) (same_fault word' word kind' kind (usage_same words word' word kind' kind h k)))
+only_fault words (Err Memory) h word kind k = inr refl
+
+-- words of `run` that are found to have no form are refused
+pub run_fault : (words : List (List ℕ)) (fault : UsageFault) → BeginsRun words → IsBadForm fault ((c : RunWords) → IsRun words c → ⊥) → Reads words (Err fault)
+run_fault words (Usage word kind) run h = subst (λ (k : UsageKind). IsUsage words word k) (sym h.1) (subst (λ (w : ℕ). IsUsage words w usage.Form) (sym h.0) (NoForm run h.2))
+run_fault words Memory run h = tt
+
+-- what is wrong behind a command of one file is wrong with its words
+pub file_fault : (name : List ℕ) (behind : List (List ℕ)) (fault : UsageFault) → IsFileCommand name → GivesFile behind (Err fault) → Reads (name ∷ behind) (Err fault)
+file_fault name behind (Usage word kind) tool h = h name tool
+file_fault name behind Memory tool h = tt
+
+-- what the exit of a `?` returns, where what is refused is refused
+pub reads_refused : (words : List (List ℕ)) (r : Result Command UsageFault) (fault : UsageFault) → IsErrAnd r (λ e. e ≡ fault) → Reads words (Err fault) → Reads words r
+reads_refused words r fault err h =
+    let p = err_from_is_err_and r err in
+    subst (Reads words) (sym p.1) (subst (λ (e : UsageFault). Reads words (Err e)) (sym p.2) h)
+
+-- no word behind a command of one file, and more than one
+pub no_word : (behind : List (List ℕ)) → length behind < 1 → (name : List ℕ) → IsFileCommand name → IsUsage (name ∷ behind) 1 usage.Missing
+no_word [] short name tool = NoFile name tool refl
+no_word (word ∷ more) short name tool = absurd (omega (arith, short))
+
+pub more_words : (behind : List (List ℕ)) → 2 ≤ length behind → (name : List ℕ) → IsFileCommand name → IsUsage (name ∷ behind) 2 usage.Form
+more_words [] long name tool = absurd (omega (arith, long))
+more_words (file ∷ []) long name tool = absurd (omega (arith, long))
+more_words (file ∷ word ∷ more) long name tool = FurtherWord name file word more tool refl
+
+-- a name that is none of the commands
+pub no_command : (name : List ℕ) (behind : List (List ℕ)) → (name ≡ codes "run" → ⊥) → (name ≡ codes "asm" → ⊥) → (name ≡ codes "dis" → ⊥) → IsUsage (name ∷ behind) 0 usage.Command
+no_command name behind run asm dis = NoCommand (none run asm dis)
+  where
+    none : (name ≡ codes "run" → ⊥) → (name ≡ codes "asm" → ⊥) → (name ≡ codes "dis" → ⊥) → BeginsCommand (name ∷ behind) → ⊥
+    none r a d (inl e) = r e
+    none r a d (inr (inl e)) = a e
+    none r a d (inr (inr e)) = d e
+
+-- the words behind `run`, read and refused
+pub run_reads : (name : List ℕ) (behind : List (List ℕ)) (c : RunWords) → name ≡ codes "run" → IsRun (codes "run" ∷ behind) c → IsCommand (name ∷ behind) (Run c)
+run_reads name behind c run h = Runs c (subst (λ (n : List ℕ). IsRun (n ∷ behind) c) (sym run) h)
+
+pub run_refused : (name : List ℕ) (behind : List (List ℕ)) (r : Result Command UsageFault) (fault : UsageFault) → name ≡ codes "run" → IsErrAnd r (λ e. e ≡ fault) →
+    IsBadForm fault ((c : RunWords) → IsRun (codes "run" ∷ behind) c → ⊥) → Reads (name ∷ behind) r
+run_refused name behind r fault run err h =
+    subst (λ (n : List ℕ). Reads (n ∷ behind) r) (sym run) (reads_refused (codes "run" ∷ behind) r fault err (run_fault (codes "run" ∷ behind) fault refl h))
+
+-- the word behind `asm` and `dis`
+pub asm_reads : (name : List ℕ) (behind : List (List ℕ)) (file : List ℕ) → name ≡ codes "asm" → behind ≡ file ∷ [] → IsCommand (name ∷ behind) (Asm file)
+asm_reads name behind file asm e = Assembles file cc
+
+pub dis_reads : (name : List ℕ) (behind : List (List ℕ)) (file : List ℕ) → name ≡ codes "dis" → behind ≡ file ∷ [] → IsCommand (name ∷ behind) (Dis file)
+dis_reads name behind file dis e = Disassembles file cc
+
+pub file_refused : (name : List ℕ) (behind : List (List ℕ)) (r : Result Command UsageFault) (fault : UsageFault) → IsFileCommand name → IsErrAnd r (λ e. e ≡ fault) →
+    GivesFile behind (Err fault) → Reads (name ∷ behind) r
+file_refused name behind r fault tool err h = reads_refused (name ∷ behind) r fault err (file_fault name behind fault tool h)
+
+-- no words begin with no command
+pub no_words : (words : List (List ℕ)) → length words ≡ 0 → IsUsage words 0 usage.Command
+no_words [] none = NoCommand (λ (h : BeginsCommand []). h)
+no_words (word ∷ more) none = absurd (omega (arith, none))

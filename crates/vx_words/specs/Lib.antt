@@ -1,0 +1,4 @@
+pub mod Names
+pub mod Words
+pub mod WordForms
+pub mod Commands

@@ -1,0 +1,62 @@
+//! What is wrong with words that are refused.
+ghost use Rattle.std.specs.Prelude.{◌≡◌};
+ghost use Rattle.vx_words.specs.declared.usage.UsageFault.TheVariants.{Memory};
+
+use std::alloc::{AllocError, AllocFailed};
+use std::fmt;
+
+/// What is wrong with the words of the command line.
+#[derive(Clone, Copy, Debug, PartialEq, Eq)]
+pub enum UsageKind {
+    /// The first word is no command.
+    Command,
+    /// The words behind the command do not have its form.
+    Form,
+    /// A word is missing, behind the last.
+    Missing,
+}
+
+/// Why words are not read.
+#[derive(Clone, Copy, Debug, PartialEq, Eq)]
+pub enum UsageFault {
+    /// The words are not as they should be.
+    Usage {
+        /// The number of the word, from 0.
+        word: u32,
+        /// What is wrong.
+        kind: UsageKind,
+    },
+    /// Memory ran out.
+    Memory,
+}
+
+impl From<AllocError> for UsageFault {
+    ghost from_gives = { λ _ e. e ≡ Memory };
+
+    fn from(_e: AllocError) -> UsageFault {
+        UsageFault::Memory
+    }
+}
+
+impl<T: Drop> From<AllocFailed<T>> for UsageFault {
+    ghost from_gives = { λ _ e. e ≡ Memory };
+
+    fn from(_e: AllocFailed<T>) -> UsageFault {
+        UsageFault::Memory
+    }
+}
+
+impl fmt::Display for UsageKind {
+    ghost use Rattle.std.specs.Prelude.{Some};
+    ghost use Rattle.vx_words.specs.Commands.{usage_kind_text};
+
+    ghost output = { λ kind. Some (usage_kind_text kind) };
+
+    fn fmt<W: fmt::Write>(&self, f: &mut fmt::Formatter<W>) -> fmt::Result {
+        match self {
+            UsageKind::Command => write!(f, "Command"),
+            UsageKind::Form => write!(f, "Form"),
+            UsageKind::Missing => write!(f, "Missing"),
+        }
+    }
+}
