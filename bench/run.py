@@ -50,6 +50,22 @@ def largest(folder):
             + ["do=k/32/32/" + ",".join(names)] + ["show=" + n for n in names])
 
 
+def assembly(folder):
+    """As many lines as an image has words."""
+    lines = ["addi x%d, x%d, %d" % (n % 32, n * 7 % 32, n % 2048) for n in range(65536)]
+    with open(os.path.join(folder, "a.s"), "w") as file:
+        file.write("\n".join(lines) + "\n")
+    return ["asm", "a.s"]
+
+
+def disassembly(folder):
+    """As many words as an image has, all of them additions."""
+    words = [(n % 2048) << 20 | (n * 7 % 32) << 15 | (n % 32) << 7 | 0b0010011 for n in range(65536)]
+    with open(os.path.join(folder, "a.hex"), "w") as file:
+        file.write("".join("%08x\n" % word for word in words))
+    return ["dis", "a.hex"]
+
+
 def measure(make):
     with tempfile.TemporaryDirectory() as folder:
         words = make(folder)
@@ -85,7 +101,7 @@ def main():
     if not os.access(PROGRAM, os.X_OK):
         sys.exit("bench: the program is not built: run ./vx once")
     print("%-12s %8s %10s %12s" % ("input", "status", "seconds", "peak MiB"))
-    for make in (affine, largest):
+    for make in (affine, largest, assembly, disassembly):
         status, seconds, peak = measure(make)
         print("%-12s %8d %10.3f %12.1f" % (make.__name__, status, seconds, peak))
     return 0
