@@ -1,0 +1,2 @@
+//! The disassembler: the assembly text of machine words.
+#![tactic(auto)]
