@@ -1,3 +1,4 @@
 pub mod Digits
+pub mod LabelLaws
 pub mod PartsInTurn
 pub mod Prefixes

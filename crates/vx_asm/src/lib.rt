@@ -5,7 +5,9 @@
 //!
 //! - `parts`: blanks, names, registers and numbers.
 //! - `lines`: statements and whole lines.
+//! - `labels`: the table of labels.
 #![tactic(auto)]
 
+pub mod labels;
 pub mod lines;
 pub mod parts;
