@@ -1,4 +1,5 @@
 pub mod Digits
 pub mod LabelLaws
+pub mod ListingLaws
 pub mod PartsInTurn
 pub mod Prefixes
