@@ -1,5 +1,7 @@
 pub mod Digits
+pub mod FittingOperands
 pub mod LabelLaws
 pub mod ListingLaws
 pub mod PartsInTurn
 pub mod Prefixes
+pub mod TextLaws

@@ -107,6 +107,40 @@ line_counts n line words word labels more said count same e at one =
     ∙ ap (λ (r : Result Labels AsmFault). r >>= λ more. with_word_of n words said.statement >>= λ count. Ok (count, more)) here
     ∙ ap (λ (r : Result ℕ AsmFault). r >>= λ count. Ok (count, more)) one
 
+-- what a line that is counted says, and how many words there are behind it
+and_labels : Labels → ℕ → Result (ℕ × Labels) AsmFault
+and_labels tab one = Ok (one, tab)
+
+how_many : Result (ℕ × Labels) AsmFault → ℕ
+how_many (Ok both) = both.0
+how_many (Err f) = 0
+
+with_words : (words count : ℕ) (tab more : Labels) (r : Result ℕ AsmFault) → (r >>= and_labels tab) ≡ Ok (count, more) → r ≡ Ok count
+unfolding and_labels how_many
+with_words words count tab more (Ok one) e =
+    let same : one ≡ count = ap how_many e in
+    ap (λ (n : ℕ). Ok n) same
+with_words words count tab more (Err f) e = absurd cc
+
+with_labels : (words count : ℕ) (more : Labels) (r : Result Labels AsmFault) (w : Result ℕ AsmFault) → (r >>= λ tab. w >>= and_labels tab) ≡ Ok (count, more) → w ≡ Ok count
+with_labels words count more (Ok tab) w e = with_words words count tab more w e
+with_labels words count more (Err f) w e = absurd cc
+
+pub record Counted (n : ℕ) (line : List ℕ) (words count : ℕ) : Type 0 where
+  pub said : Line
+  pub read : line_read n line ≡ Ok said
+  pub counted_so : with_word_of n words said.statement ≡ Ok count
+
+by_read : (n : ℕ) (line : List ℕ) (words count : ℕ) (labels more : Labels) (r : Result Line AsmFault) → line_read n line ≡ r
+    → (r >>= from_read n line words labels) ≡ Ok (count, more) → Counted n line words count
+unfolding from_read and_labels
+by_read n line words count labels more (Err f) is e = absurd cc
+by_read n line words count labels more (Ok said) is e =
+    record { said = said; read = is; counted_so = with_labels words count more (with_label n line words labels said.label) (with_word_of n words said.statement) e }
+
+pub counted_is_read : (n : ℕ) (line : List ℕ) (words count : ℕ) (labels more : Labels) → counted n line words labels ≡ Ok (count, more) → Counted n line words count
+counted_is_read n line words count labels more e = by_read n line words count labels more (line_read n line) refl (sym (counts n line words labels) ∙ e)
+
 -- what a line that is read says
 unfit : (n : ℕ) (line : List ℕ) (m : Option ℕ) (r : Result Line AsmFault) (said : Line) → (fitting n line m >>= λ fit. r) ≡ Ok said → r ≡ Ok said
 unfit n line None r said e = e
