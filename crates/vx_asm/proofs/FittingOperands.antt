@@ -1,6 +1,6 @@
 -- The operands of a statement that is read, without a label and with numbers that fit, fit its instruction.
 use Rattle.std.proofs.Common.{◌≡◌, ℕ, zero, suc, ◌+◌, ◌-◌, ◌*◌, ◌%◌, ◌^◌, ◌<◌, ◌≤◌, Bool, true, false, List, [], ◌∷◌, length, take, drop, refl, sym, ap, ◌∙◌, arith, true≢false}
-use Rattle.std.specs.Prelude.{Option, Some, None, Result, Ok, Err, ◌==◌, nat_lt, nat_le, nat_eq, not, ◌&&◌, slice_index, IfSome}
+use Rattle.std.specs.Prelude.{Option, Some, None, Result, Ok, Err, ◌==◌, nat_lt, nat_le, nat_eq, not, ◌&&◌, slice_index, IfSome, is_some, if◌then◌else◌}
 use Rattle.std.proofs.lemmas.Bool.Decides.{nat_tests}
 use Rattle.std.specs.List.{prefix_len}
 use Rattle.vx_isa.specs.Words.{is_register, is_signed, is_place, is_csr, are_registers, fits_signed, fits_branch, fits_upper}
@@ -17,7 +17,7 @@ use Rattle.asm_text.specs.declared.statements.Span.{Span}
 use Rattle.asm_text.specs.declared.statements.Statement.{Statement}
 use Rattle.asm_text.specs.declared.statements.Line.{Line}
 use Rattle.asm_text.specs.Mnemonics.{form_of, parts_of, instr_of, three, with_operand}
-use Rattle.asm_text.specs.AsmLines.{Read, ◌>>=◌, past_blanks, is_decimal, is_two_digits, two_digits, register_number_at, register_at, number_at, fits_field, word_of_number, with_word, with_number, with_target, field_at, place_at, part_at, parts_at, bare, operands_at}
+use Rattle.asm_text.specs.AsmLines.{Read, ◌>>=◌, past_blanks, is_decimal, is_two_digits, two_digits, register_number_at, register_at, number_at, fits_field, word_of_number, first_of_both, begins_name, is_in_name, mark_at, with_word, with_number, with_target, field_at, place_at, part_at, parts_at, bare, operands_at}
 use Rattle.asm_text.specs.AsmTexts.{fits_some}
 
 by_test : {P : Type 0} (t : Bool) → (t ≡ true → P) → (t ≡ false → P) → P
@@ -52,22 +52,22 @@ both {a = true} p q = q
 both {a = false} p q = p
 
 three_fit : (o : Operands) → Takes (parts_of form.ThreeRegisters) (three 0 0 0) o → are_registers o.first o.second o.third ≡ true
-three_fit o (a, p, (b, q, (c, r, e))) = rw e (both p (both q r))
+three_fit o (a, p, (b, q, (c, r, e))) = rw e (both (both p q) r)
 
 immediate_fit : (o : Operands) → Takes (parts_of form.Immediate) (three 0 0 0) o → fits_signed o.first o.second o.third ≡ true
-immediate_fit o (a, p, (b, q, (c, r, e))) = rw e (both p (both q r))
+immediate_fit o (a, p, (b, q, (c, r, e))) = rw e (both (both p q) r)
 
 shift_fit : (o : Operands) → Takes (parts_of form.Shift) (three 0 0 0) o → are_registers o.first o.second o.third ≡ true
-shift_fit o (a, p, (b, q, (c, r, e))) = rw e (both p (both q r))
+shift_fit o (a, p, (b, q, (c, r, e))) = rw e (both (both p q) r)
 
 memory_fit : (o : Operands) → Takes (parts_of form.Memory) (three 0 0 0) o → fits_signed o.first o.third o.second ≡ true
-memory_fit o (a, p, (b, q, (c, r, e))) = rw e (both p (both r q))
+memory_fit o (a, p, (b, q, (c, r, e))) = rw e (both (both p r) q)
 
 store_fit : (o : Operands) → Takes (parts_of form.Memory) (three 0 0 0) o → fits_signed o.third o.first o.second ≡ true
-store_fit o (a, p, (b, q, (c, r, e))) = rw e (both r (both p q))
+store_fit o (a, p, (b, q, (c, r, e))) = rw e (both (both r p) q)
 
 branch_fit : (o : Operands) → Takes (parts_of form.Branch) (three 0 0 0) o → fits_branch o.first o.second o.third ≡ true
-branch_fit o (a, p, (b, q, (c, r, e))) = rw e (both p (both q r))
+branch_fit o (a, p, (b, q, (c, r, e))) = rw e (both (both p q) r)
 
 upper_fit : (o : Operands) → Takes (parts_of form.Upper) (three 0 0 0) o → fits_upper o.second o.third ≡ true
 upper_fit o (a, p, (b, q, e)) = rw e (both p q)
@@ -146,7 +146,7 @@ taken_fit row.Word o takes = refl
 
 -- ---- what reading leaves
 
-either : {P : Type 0} (t : Bool) (x y : P) → (Q : P → Type 0) → (t ≡ true → Q x) → (t ≡ false → Q y) → Q (if t then x else y)
+pub either : {P : Type 0} (t : Bool) (x y : P) → (Q : P → Type 0) → (t ≡ true → Q x) → (t ≡ false → Q y) → Q (if t then x else y)
 either true x y Q if_true if_false = if_true refl
 either false x y Q if_true if_false = if_false refl
 
@@ -219,3 +219,77 @@ pub record Took (parts : List Part) (before after : Statement) : Type 0 where
 abbrev pub Leaves : List Part → Statement → Read Statement → Type 0
 Leaves parts before (Ok (after, rest)) = after.misfit ≡ None → after.target ≡ None → Took parts before after
 Leaves parts before (Err left) = Unit {0}
+
+no_misfit : (early : Option ℕ) (left : ℕ) → first_of_both early left ≡ None → ⊥
+no_misfit None left e = true≢false (ap is_some e)
+no_misfit (Some first) left e = true≢false (ap is_some e)
+
+-- a word more
+takes_word : (part : Part) (before : Statement) (word : ℕ) → ((parts : List Part) (end : Operands) → Takes parts (with_operand before.operands word) end → Takes (part ∷ parts) before.operands end)
+    → (with_word before word).misfit ≡ None → (with_word before word).target ≡ None → TookOne part before (with_word before word)
+takes_word part before word takes fits plain = record { fits_before = fits; no_label_before = plain; same = refl; takes = takes }
+
+after_register : (before : Statement) (r : Read ℕ) → Small r → LeavesOne Register before (r >>= λ (register, rest). Ok (with_word before register, rest))
+unfolding Small LeavesOne
+after_register before (Ok (register, rest)) small = takes_word Register before register (λ parts end takes. (register, small, takes))
+after_register before (Err left) small = tt
+
+-- a number for a field is a word of the field
+after_number : (part : Part) (f : Field) (before : Statement) (left : ℕ) (number : Written)
+    → ((word : ℕ) → in_field f word ≡ true → (parts : List Part) (end : Operands) → Takes parts (with_operand before.operands word) end → Takes (part ∷ parts) before.operands end)
+    → (with_number f left before number).misfit ≡ None → (with_number f left before number).target ≡ None → TookOne part before (with_number f left before number)
+after_number part f before left number takes =
+    either (fits_field f number) (with_word before (word_of_number number)) (record before { misfit = first_of_both before.misfit left })
+    (λ after. after.misfit ≡ None → after.target ≡ None → TookOne part before after)
+    (λ fits. takes_word part before (word_of_number number) (takes (word_of_number number) (in_field_if_fits f number fits)))
+    (λ not_fits misfit plain. absurd (no_misfit before.misfit left misfit))
+
+after_field : (part : Part) (f : Field) (before : Statement) (left : ℕ) (r : Read Written)
+    → ((word : ℕ) → in_field f word ≡ true → (parts : List Part) (end : Operands) → Takes parts (with_operand before.operands word) end → Takes (part ∷ parts) before.operands end)
+    → LeavesOne part before (r >>= λ (number, rest). Ok (with_number f left before number, rest))
+unfolding LeavesOne
+after_field part f before left (Ok (number, rest)) takes = after_number part f before left number takes
+after_field part f before left (Err left_there) takes = tt
+
+after_label : (part : Part) (before : Statement) (bytes : List ℕ) → (with_target before bytes).misfit ≡ None → (with_target before bytes).target ≡ None → TookOne part before (with_target before bytes)
+after_label part before bytes fits plain = absurd (true≢false (ap is_some plain))
+
+after_mark : (part : Part) (mark : ℕ) (before : Statement) (bytes : List ℕ) → ((parts : List Part) (end : Operands) → Takes parts before.operands end → Takes (part ∷ parts) before.operands end)
+    → LeavesOne part before (mark_at mark before bytes)
+unfolding LeavesOne
+after_mark part mark before bytes takes =
+    either (slice_index bytes 0 == mark) (Ok (before, drop 1 bytes)) (Err (length bytes)) (LeavesOne part before)
+    (λ e fits plain. record { fits_before = fits; no_label_before = plain; same = refl; takes = takes })
+    (λ e. tt)
+
+after_part : (part : Part) (before : Statement) (bytes : List ℕ) → LeavesOne part before (part_at part before bytes)
+unfolding part_at LeavesOne
+after_part Register before bytes = after_register before (register_at bytes) (small_register bytes)
+after_part (Number f) before bytes = after_field (Number f) f before (length bytes) (number_at bytes) (λ word fits parts end takes. (word, fits, takes))
+after_part (Place f) before bytes =
+    either (begins_name (slice_index bytes 0)) (Ok (with_target before bytes, drop (prefix_len is_in_name bytes) bytes)) (field_at f before bytes) (LeavesOne (Place f) before)
+    (λ e. after_label (Place f) before bytes)
+    (λ e. after_field (Place f) f before (length bytes) (number_at bytes) (λ word fits parts end takes. (word, fits, takes)))
+after_part Comma before bytes = after_mark Comma 44 before bytes (λ parts end takes. takes)
+after_part Open before bytes = after_mark Open 40 before bytes (λ parts end takes. takes)
+after_part Close before bytes = after_mark Close 41 before bytes (λ parts end takes. takes)
+
+one_then_more : (part : Part) (parts : List Part) (before middle : Statement) (r : Read Statement) → (middle.misfit ≡ None → middle.target ≡ None → TookOne part before middle)
+    → Leaves parts middle r → Leaves (part ∷ parts) before r
+one_then_more part parts before middle (Ok (after, rest)) one more = λ fits plain.
+    let t : Took parts middle after = more fits plain in
+    let o : TookOne part before middle = one t.fits_before t.no_label_before in
+    record { fits_before = o.fits_before; no_label_before = o.no_label_before; same = t.same ∙ o.same; takes = o.takes parts after.operands t.takes }
+one_then_more part parts before middle (Err left) one more = tt
+
+part_then_more : (part : Part) (parts : List Part) (before : Statement) (r : Read Statement) → LeavesOne part before r
+    → ((middle : Statement) (rest : List ℕ) → Leaves parts middle (parts_at parts middle rest)) → Leaves (part ∷ parts) before (r >>= λ (more, rest). parts_at parts more rest)
+unfolding LeavesOne
+part_then_more part parts before (Ok (middle, rest)) one others = one_then_more part parts before middle (parts_at parts middle rest) one (others middle rest)
+part_then_more part parts before (Err left) one others = tt
+
+pub after_parts : (parts : List Part) (before : Statement) (bytes : List ℕ) → Leaves parts before (parts_at parts before bytes)
+unfolding parts_at
+after_parts [] before bytes = λ fits plain. record { fits_before = fits; no_label_before = plain; same = refl; takes = refl }
+after_parts (part ∷ parts) before bytes =
+    part_then_more part parts before (part_at part before (past_blanks bytes)) (after_part part before (past_blanks bytes)) (λ middle rest. after_parts parts middle rest)

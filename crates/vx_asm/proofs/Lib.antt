@@ -1,4 +1,5 @@
 pub mod Digits
+pub mod FittingLines
 pub mod FittingOperands
 pub mod LabelLaws
 pub mod ListingLaws
