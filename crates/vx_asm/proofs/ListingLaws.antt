@@ -1,7 +1,7 @@
 -- Labels and statements line by line.
-use Rattle.std.proofs.Common.{◌≡◌, ℕ, zero, suc, ◌+◌, ◌≤◌, ◌⊎◌, inl, inr, Bool, true, false, List, [], ◌∷◌, ◌++◌, length, refl, sym, ap, ◌∙◌, append_assoc, arith}
-use Rattle.std.specs.Prelude.{Option, Some, None, Result, Ok, Err, ◌==◌}
-use Rattle.std.proofs.lemmas.List.{append-nil}
+use Rattle.std.proofs.Common.{◌≡◌, ℕ, zero, suc, ◌+◌, ◌<◌, ◌≤◌, ◌⊎◌, inl, inr, Bool, true, false, List, [], ◌∷◌, ◌++◌, length, drop, refl, sym, ap, ◌∙◌, append_assoc, arith}
+use Rattle.std.specs.Prelude.{Option, Some, None, Result, Ok, Err, get_or, ◌==◌}
+use Rattle.std.proofs.lemmas.List.{append-nil, drop_more, drop_all}
 use Rattle.asm_text.specs.declared.statements.Span.{Span}
 use Rattle.asm_text.specs.declared.statements.Statement.{Statement}
 use Rattle.asm_text.specs.declared.statements.Line.{Line}
@@ -159,3 +159,46 @@ pub line_is_noted : (n : ℕ) (line : List ℕ) (said : Line) (old new : List Li
     → ((labels : Labels) → words_of_listed labels 0 new ≡ and_then (words_of_listed labels 0 old) (words_of_statement n line labels (length old) said.statement))
     → (labels : Labels) → words_of_listed labels 0 new ≡ and_then (words_of_listed labels 0 old) (words_of_line n line labels (length old))
 line_is_noted n line said old new e noted labels = noted labels ∙ ap (and_then (words_of_listed labels 0 old)) (sym (words_are_said n line said labels (length old) e))
+
+-- ---- the words of all statements, in turn
+
+at_listed : (labels : Labels) (k i : ℕ) (ls : List Listed) (d : Listed) → i < length ls
+    → words_of_listed labels k (drop i ls) ≡ (word_in_list (word_of_listed labels k (get_or ls i d)) >>= λ words. appended words (words_of_listed labels (k + 1) (drop (i + 1) ls)))
+unfolding words_of_listed
+at_listed labels k i ls d within = rw (drop_more ls i d within) refl
+
+appended_twice : (front : List ℕ) (w : ℕ) (r : Result (List ℕ) AsmFault) → appended front (appended (w ∷ []) r) ≡ appended (front ++ w ∷ []) r
+appended_twice front w (Ok more) = ap (λ (ws : List ℕ). Ok ws) (sym (append_assoc front (w ∷ []) more))
+appended_twice front w (Err f) = refl
+
+pub listed_goes_on : (labels : Labels) (i n : ℕ) (ls : List Listed) (d : Listed) (front new : List ℕ) (w : ℕ) (total : Result (List ℕ) AsmFault) → i < length ls → n ≡ i → new ≡ front ++ w ∷ []
+    → word_of_listed labels n (get_or ls i d) ≡ Ok w → appended front (words_of_listed labels i (drop i ls)) ≡ total
+    → appended new (words_of_listed labels (i + 1) (drop (i + 1) ls)) ≡ total
+listed_goes_on labels i n ls d front new w total within same pushed found so_far =
+    let one : word_of_listed labels i (get_or ls i d) ≡ Ok w = ap (λ (k : ℕ). word_of_listed labels k (get_or ls i d)) (sym same) ∙ found in
+    let next : Result (List ℕ) AsmFault = words_of_listed labels (i + 1) (drop (i + 1) ls) in
+    let here : words_of_listed labels i (drop i ls) ≡ appended (w ∷ []) next = at_listed labels i i ls d within ∙ ap (λ (r : Result ℕ AsmFault). word_in_list r >>= λ words. appended words next) one in
+    ap (λ (ws : List ℕ). appended ws next) pushed ∙ sym (appended_twice front w next) ∙ sym (ap (appended front) here) ∙ so_far
+
+pub listed_is_refused : (labels : Labels) (i n : ℕ) (ls : List Listed) (d : Listed) (front : List ℕ) (f : AsmFault) (total : Result (List ℕ) AsmFault) → i < length ls → n ≡ i
+    → word_of_listed labels n (get_or ls i d) ≡ Err f → appended front (words_of_listed labels i (drop i ls)) ≡ total → total ≡ Err f
+listed_is_refused labels i n ls d front f total within same found so_far =
+    let one : word_of_listed labels i (get_or ls i d) ≡ Err f = ap (λ (k : ℕ). word_of_listed labels k (get_or ls i d)) (sym same) ∙ found in
+    let next : Result (List ℕ) AsmFault = words_of_listed labels (i + 1) (drop (i + 1) ls) in
+    let here : words_of_listed labels i (drop i ls) ≡ Err f = at_listed labels i i ls d within ∙ ap (λ (r : Result ℕ AsmFault). word_in_list r >>= λ words. appended words next) one in
+    sym so_far ∙ ap (appended front) here
+
+pub listed_ends : (labels : Labels) (i : ℕ) (ls : List Listed) (front : List ℕ) (total : Result (List ℕ) AsmFault) → length ls ≤ i
+    → appended front (words_of_listed labels i (drop i ls)) ≡ total → total ≡ Ok front
+unfolding words_of_listed
+listed_ends labels i ls front total past so_far =
+    let none : drop i ls ≡ [] = drop_all i ls past in
+    let last : words_of_listed labels i (drop i ls) ≡ Ok [] = rw none refl in
+    sym so_far ∙ ap (appended front) last ∙ ap (λ (ws : List ℕ). Ok ws) (append-nil front)
+
+pub listed_begins : (labels : Labels) (ls : List Listed) (front : List ℕ) → front ≡ [] → appended front (words_of_listed labels 0 (drop 0 ls)) ≡ words_of_listed labels 0 ls
+listed_begins labels ls front none = rw none (whole (words_of_listed labels 0 ls))
+  where
+    whole : (r : Result (List ℕ) AsmFault) → appended [] r ≡ r
+    whole (Ok words) = refl
+    whole (Err f) = refl
