@@ -11,39 +11,39 @@ use Rattle.asm_text.specs.declared.mnemonics.Operands.{Operands}
 use Rattle.asm_text.specs.HexLines.{hex_line}
 use Rattle.asm_text.specs.Mnemonics.{mnemonic_of, operands_of, name_of, form_of}
 
-abbrev pub register : ℕ → List ℕ
-register n = codes "x" ++ decimal n
-
 -- a word as a signed number
 abbrev pub signed : ℕ → List ℕ
 signed word = signed_decimal (signed_of word)
 
 -- lower-case digits without zeros in front
 abbrev pub hexadecimal : ℕ → List ℕ
-hexadecimal n = codes "0x" ++ digits 16 false n
+hexadecimal n = digits 16 false n
 
-abbrev pub comma : List ℕ
-comma = codes ", "
+-- pieces of a text one behind the other
+abbrev pub joined : List (List ℕ) → List ℕ
+joined [] = []
+joined (piece ∷ []) = piece
+joined (piece ∷ next ∷ more) = piece ++ joined (next ∷ more)
 
 -- What stands behind a mnemonic. A place is a number of bytes.
 abbrev pub operands_text : Form → Operands → List ℕ
-operands_text form.ThreeRegisters o = codes " " ++ register o.first ++ comma ++ register o.second ++ comma ++ register o.third
-operands_text form.Immediate o = codes " " ++ register o.first ++ comma ++ register o.second ++ comma ++ signed o.third
-operands_text form.Shift o = codes " " ++ register o.first ++ comma ++ register o.second ++ comma ++ decimal o.third
-operands_text form.Memory o = codes " " ++ register o.first ++ comma ++ signed o.second ++ codes "(" ++ register o.third ++ codes ")"
-operands_text form.Branch o = codes " " ++ register o.first ++ comma ++ register o.second ++ comma ++ signed o.third
-operands_text form.Upper o = codes " " ++ register o.second ++ comma ++ hexadecimal o.third
-operands_text form.Jump o = codes " " ++ register o.second ++ comma ++ signed o.third
-operands_text form.Fence o = codes " " ++ decimal o.second ++ comma ++ decimal o.third
-operands_text form.Csr o = codes " " ++ register o.second ++ comma ++ hexadecimal o.third
-operands_text form.OneRegister o = codes " " ++ register o.third
-operands_text form.TwoRegisters o = codes " " ++ register o.second ++ comma ++ register o.third
+operands_text form.ThreeRegisters o = joined (codes " x" ∷ decimal o.first ∷ codes ", x" ∷ decimal o.second ∷ codes ", x" ∷ decimal o.third ∷ [])
+operands_text form.Immediate o = joined (codes " x" ∷ decimal o.first ∷ codes ", x" ∷ decimal o.second ∷ codes ", " ∷ signed o.third ∷ [])
+operands_text form.Shift o = joined (codes " x" ∷ decimal o.first ∷ codes ", x" ∷ decimal o.second ∷ codes ", " ∷ decimal o.third ∷ [])
+operands_text form.Memory o = joined (codes " x" ∷ decimal o.first ∷ codes ", " ∷ signed o.second ∷ codes "(x" ∷ decimal o.third ∷ codes ")" ∷ [])
+operands_text form.Branch o = joined (codes " x" ∷ decimal o.first ∷ codes ", x" ∷ decimal o.second ∷ codes ", " ∷ signed o.third ∷ [])
+operands_text form.Upper o = joined (codes " x" ∷ decimal o.second ∷ codes ", 0x" ∷ hexadecimal o.third ∷ [])
+operands_text form.Jump o = joined (codes " x" ∷ decimal o.second ∷ codes ", " ∷ signed o.third ∷ [])
+operands_text form.Fence o = joined (codes " " ∷ decimal o.second ∷ codes ", " ∷ decimal o.third ∷ [])
+operands_text form.Csr o = joined (codes " x" ∷ decimal o.second ∷ codes ", 0x" ∷ hexadecimal o.third ∷ [])
+operands_text form.OneRegister o = joined (codes " x" ∷ decimal o.third ∷ [])
+operands_text form.TwoRegisters o = joined (codes " x" ∷ decimal o.second ∷ codes ", x" ∷ decimal o.third ∷ [])
 operands_text form.Bare o = []
-operands_text form.Word o = codes " " ++ hexadecimal o.third
+operands_text form.Word o = joined (codes " 0x" ∷ hexadecimal o.third ∷ [])
 
 -- the line of an instruction
 abbrev pub instr_text : Instr → List ℕ
-instr_text i = name_of (mnemonic_of i) ++ operands_text (form_of (mnemonic_of i)) (operands_of i) ++ codes "\n"
+instr_text i = joined (name_of (mnemonic_of i) ∷ operands_text (form_of (mnemonic_of i)) (operands_of i) ∷ codes "\n" ∷ [])
 
 -- the line of a word: its row's, and for a word that spells none the word itself in eight hexadecimal digits
 abbrev pub row_text : ℕ → Option Instr → List ℕ
