@@ -1,2 +1,3 @@
 pub mod PrintedNumbers
 pub mod PrintedParts
+pub mod PrintedRows

@@ -7,6 +7,7 @@ use Rattle.std.specs.Int.{to_be_bytes, w32}
 use Rattle.std.specs.Fmt.{decimal}
 use Rattle.std.specs.Str.Parse.{digits_value, AllDigits, IsNumeral}
 use Rattle.std.proofs.lemmas.Bool.Decides.{nat_tests}
+use Rattle.std.proofs.lemmas.Fmt.{decimal_is_IsNumeral}
 use Rattle.vx_isa.specs.Words.{is_register, is_signed, is_place, is_csr}
 use Rattle.asm_text.specs.declared.mnemonics.Field.{Field}
 use Rattle.asm_text.specs.declared.mnemonics.Field.TheVariants as field
@@ -174,7 +175,7 @@ stops (Register ∷ parts) words marked = absurd marked
 stops (Number f ∷ parts) words marked = absurd marked
 stops (Place f ∷ parts) words marked = absurd marked
 
-not_blank : (parts : List Part) (words : List ℕ) → InRange parts words → is_blank (slice_index (parts_text parts words) 0) ≡ false
+pub not_blank : (parts : List Part) (words : List ℕ) → InRange parts words → is_blank (slice_index (parts_text parts words) 0) ≡ false
 not_blank [] words range = refl
 not_blank (Comma ∷ parts) words range = refl
 not_blank (Open ∷ parts) words range = refl
@@ -214,9 +215,52 @@ field_part f s word t fits marks =
     let number : FieldRead f word t = field_read f word t fits marks in
     rw (number.read, fitting_word f (length (number_text f word ++ t)) s number.number word number.fits number.same) refl
 
+-- the first byte of a decimal number is a digit
+first_digit : (ds t : List ℕ) → IsNumeral 10 ds → digit_value (slice_index (ds ++ t) 0) < 10
+first_digit [] t numeral = absurd (omega (arith, numeral.0))
+first_digit (d ∷ ds) t numeral = numeral.1.0
+
+digit_byte : (c : ℕ) → digit_value c < 10 → (begins_name c ≡ false) × ((c == 58) ≡ false)
+digit_byte c digit = (grind (arith, nat_tests), grind (arith, nat_tests))
+
+decimal_byte : (word : ℕ) (t : List ℕ) → word < 2 ^ 32 → (begins_name (slice_index (decimal word ++ t) 0) ≡ false) × ((slice_index (decimal word ++ t) 0 == 58) ≡ false)
+decimal_byte word t small = digit_byte (slice_index (decimal word ++ t) 0) (first_digit (decimal word) t (decimal_is_IsNumeral word (omega arith)).0)
+
+signed_byte : (word : ℕ) (t : List ℕ) → word < 2 ^ 32 → (begins_name (slice_index (text.signed word ++ t) 0) ≡ false) × ((slice_index (text.signed word ++ t) 0 == 58) ≡ false)
+signed_byte word t small = by_test (nat_lt word (2 ^ 31))
+    (λ e.
+      let less : word < 2 ^ 31 = grind (arith, nat_tests) in
+      rw (not_negative word less) (decimal_byte word t small))
+    (λ e.
+      let great : 2 ^ 31 ≤ word = grind (arith, nat_tests) in
+      rw (negative word great small) (refl, refl))
+
 -- a printed place is no label
 no_name : (word : ℕ) (t : List ℕ) → word < 2 ^ 32 → begins_name (slice_index (text.signed word ++ t) 0) ≡ false
-no_name word t small = ?
+no_name word t small = (signed_byte word t small).0
+
+number_no_colon : (f : Field) (word : ℕ) (t : List ℕ) → in_field f word ≡ true → (slice_index (number_text f word ++ t) 0 == 58) ≡ false
+number_no_colon field.Immediate word t fits = (signed_byte word t (grind (arith, nat_tests))).1
+number_no_colon field.Branch word t fits = (signed_byte word t (grind (arith, nat_tests))).1
+number_no_colon field.Jump word t fits = (signed_byte word t (grind (arith, nat_tests))).1
+number_no_colon field.Amount word t fits = (decimal_byte word t (grind (arith, nat_tests))).1
+number_no_colon field.FenceSet word t fits = (decimal_byte word t (grind (arith, nat_tests))).1
+number_no_colon field.Upper word t fits = refl
+number_no_colon field.Csr word t fits = refl
+number_no_colon field.Word word t fits = refl
+
+-- the text of parts begins with no `:`
+pub no_colon : (parts : List Part) (words : List ℕ) → InRange parts words → (slice_index (parts_text parts words) 0 == 58) ≡ false
+no_colon [] words range = refl
+no_colon (Comma ∷ parts) words range = refl
+no_colon (Open ∷ parts) words range = refl
+no_colon (Close ∷ parts) words range = refl
+no_colon (Register ∷ parts) [] range = absurd range
+no_colon (Register ∷ parts) (w ∷ words) range = refl
+no_colon (Number f ∷ parts) [] range = absurd range
+no_colon (Number f ∷ parts) (w ∷ words) range = number_no_colon f w (parts_text parts words) range.0
+no_colon (Place f ∷ parts) [] range = absurd range
+no_colon (Place f ∷ parts) (w ∷ words) range = number_no_colon f w (parts_text parts words) range.1
 
 place_part : (f : Field) (s : Statement) (word : ℕ) (t : List ℕ) → in_field f word ≡ true → number_text f word ≡ text.signed word → word < 2 ^ 32 → Stops t → place_at f s (number_text f word ++ t) ≡ Ok (with_word s word, t)
 place_part f s word t fits printed small marks =
