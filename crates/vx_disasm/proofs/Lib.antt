@@ -2,3 +2,4 @@ pub mod PrintedLines
 pub mod PrintedNumbers
 pub mod PrintedParts
 pub mod PrintedRows
+pub mod PrintedTexts

@@ -2,7 +2,8 @@
 use Rattle.std.proofs.Common.{◌≡◌, ℕ, zero, suc, ◌+◌, ◌-◌, ◌*◌, ◌/◌, ◌%◌, ◌^◌, ◌<◌, ◌≤◌, ◌⊎◌, inl, inr, Bool, true, false, List, [], ◌∷◌, ◌++◌, length, take, drop, refl, sym, ap, ◌∙◌, append_assoc, arith}
 use Rattle.std.specs.Prelude.{Option, Some, None, Result, Ok, Err, ◌==◌, ◌&&◌, nat_lt, slice_index, codes}
 use Rattle.std.specs.Char.{digit_value, is_digit}
-use Rattle.std.specs.Int.{to_be_bytes, w32}
+use Rattle.std.specs.Int.{to_be_bytes, from_be_bytes, w32}
+use Rattle.std.proofs.lemmas.Nat.{from_be_bytes-to_be_bytes_4}
 use Rattle.std.specs.List.{prefix_len, position_or_len}
 use Rattle.std.specs.Fmt.{decimal}
 use Rattle.std.specs.Str.Parse.{digits_value, AllDigits, IsNumeral}
@@ -13,6 +14,7 @@ use Rattle.vx_isa.specs.declared.instr.Instr.{Instr}
 use Rattle.vx_isa.specs.Words.{word_of, fits_of, Fits, Spells}
 use Rattle.vx_isa.specs.Rows.{row_of}
 use Rattle.vx_isa.proofs.RowLaws.{row_is_spelled}
+use Rattle.asm_text.specs.HexLines.{encode_lower, encode_with, lower_digits}
 use Rattle.asm_text.specs.declared.mnemonics.Mnemonic.{Mnemonic}
 use Rattle.asm_text.specs.declared.mnemonics.Mnemonic.TheVariants as row
 use Rattle.asm_text.specs.declared.mnemonics.Form.{Form}
@@ -23,10 +25,10 @@ use Rattle.asm_text.specs.declared.mnemonics.Part.TheVariants.{Register, Number,
 use Rattle.asm_text.specs.declared.statements.Statement.{Statement}
 use Rattle.asm_text.specs.declared.statements.Line.{Line}
 use Rattle.asm_text.specs.Mnemonics.{name_of, form_of, parts_of, instr_of, mnemonic_of, operands_of, three}
-use Rattle.asm_text.specs.AsmLines.{Read, ◌>>=◌, is_blank, past_blanks, bare, begins_name, is_in_name, mnemonic_named, operands_at, operands_or_refused, with_statement, ended, ends, named_line, line_of}
+use Rattle.asm_text.specs.AsmLines.{Read, ◌>>=◌, is_blank, past_blanks, bare, begins_name, is_in_name, mnemonic_named, operands_at, operands_or_refused, with_statement, ended, ends, named_line, rest_of_line, statement_at, parts_at, part_at, number_at, size_at, digits_at, line_of}
 use Rattle.asm_text.specs.AsmTexts.{word_of_statement, word_or_number}
 use Rattle.vx_disasm.specs.Texts.{operands_text}
-use Rattle.vx_disasm.proofs.PrintedNumbers.{by_test, take_front, drop_front}
+use Rattle.vx_disasm.proofs.PrintedNumbers.{by_test, digits_read, take_front, drop_front}
 use Rattle.vx_disasm.proofs.PrintedParts.{InRange, parts_text, with_words, PartsRead, parts_read, no_blank, after_blank, not_blank, no_colon}
 use Rattle.vx_disasm.proofs.PrintedRows.{Row, Plain, shown, lead, printed, spaced, statement_of}
 use Rattle.vx_disasm.proofs.PrintedRows as rows
@@ -106,3 +108,75 @@ instr_line m i known =
     let read : operands_at m t ≡ Ok (statement_of m o, parts.rest) = parts.read ∙ ap (λ (s : Statement). Ok (s, parts.rest)) known.back in
     let last : ended None (Some (statement_of m o)) parts.rest ≡ Ok (said (statement_of m o)) = at_end (statement_of m o) parts.rest parts.behind in
     rw (start, known.begins t, n, take_front (name_of m) t, drop_front (name_of m) t, colon, known.named, read) last
+
+-- ---- the line of a word that spells no row
+
+nibble : (d : ℕ) → d < 16 → digit_value (slice_index lower_digits d) ≡ d
+nibble zero small = refl
+nibble (suc zero) small = refl
+nibble (suc (suc zero)) small = refl
+nibble (suc (suc (suc zero))) small = refl
+nibble (suc (suc (suc (suc zero)))) small = refl
+nibble (suc (suc (suc (suc (suc zero))))) small = refl
+nibble (suc (suc (suc (suc (suc (suc zero)))))) small = refl
+nibble (suc (suc (suc (suc (suc (suc (suc zero))))))) small = refl
+nibble (suc (suc (suc (suc (suc (suc (suc (suc zero)))))))) small = refl
+nibble (suc (suc (suc (suc (suc (suc (suc (suc (suc zero))))))))) small = refl
+nibble (suc (suc (suc (suc (suc (suc (suc (suc (suc (suc zero)))))))))) small = refl
+nibble (suc (suc (suc (suc (suc (suc (suc (suc (suc (suc (suc zero))))))))))) small = refl
+nibble (suc (suc (suc (suc (suc (suc (suc (suc (suc (suc (suc (suc zero)))))))))))) small = refl
+nibble (suc (suc (suc (suc (suc (suc (suc (suc (suc (suc (suc (suc (suc zero))))))))))))) small = refl
+nibble (suc (suc (suc (suc (suc (suc (suc (suc (suc (suc (suc (suc (suc (suc zero)))))))))))))) small = refl
+nibble (suc (suc (suc (suc (suc (suc (suc (suc (suc (suc (suc (suc (suc (suc (suc zero))))))))))))))) small = refl
+nibble (suc (suc (suc (suc (suc (suc (suc (suc (suc (suc (suc (suc (suc (suc (suc (suc d)))))))))))))))) small = absurd (omega arith)
+
+pub are_digits : (bytes : List ℕ) → ((k : ℕ) → slice_index bytes k < 256) → AllDigits 16 (encode_lower bytes)
+unfolding encode_with
+are_digits [] small = tt
+are_digits (b ∷ bytes) small =
+    let byte : b < 256 = small 0 in
+    let high : b / 16 < 16 = omega arith in
+    let low : b % 16 < 16 = omega arith in
+    (omega (arith, nibble (b / 16) high, high), (omega (arith, nibble (b % 16) low, low), are_digits bytes (λ k. small (suc k))))
+
+value_of_four : (a b c d : ℕ) → a < 256 → b < 256 → c < 256 → d < 256 → digits_value 16 (encode_lower (a ∷ b ∷ c ∷ d ∷ [])) ≡ ((a * 256 + b) * 256 + c) * 256 + d
+unfolding encode_with
+value_of_four a b c d sa sb sc sd =
+    rw (nibble (a / 16) (omega arith), nibble (a % 16) (omega arith), nibble (b / 16) (omega arith), nibble (b % 16) (omega arith), nibble (c / 16) (omega arith), nibble (c % 16) (omega arith), nibble (d / 16) (omega arith), nibble (d % 16) (omega arith))
+    (omega arith)
+
+pub word_bytes : (w k : ℕ) → slice_index (to_be_bytes w32 w) k < 256
+word_bytes w zero = omega arith
+word_bytes w (suc zero) = omega arith
+word_bytes w (suc (suc zero)) = omega arith
+word_bytes w (suc (suc (suc zero))) = omega arith
+word_bytes w (suc (suc (suc (suc k)))) = omega arith
+
+value_of_bytes : (bytes : List ℕ) → length bytes ≡ 4 → ((k : ℕ) → slice_index bytes k < 256) → digits_value 16 (encode_lower bytes) ≡ from_be_bytes w32 bytes
+value_of_bytes [] four small = absurd (omega arith)
+value_of_bytes (a ∷ []) four small = absurd (omega arith)
+value_of_bytes (a ∷ b ∷ []) four small = absurd (omega arith)
+value_of_bytes (a ∷ b ∷ c ∷ []) four small = absurd (omega arith)
+value_of_bytes (a ∷ b ∷ c ∷ d ∷ []) four small = omega (arith, value_of_four a b c d (small 0) (small 1) (small 2) (small 3))
+value_of_bytes (a ∷ b ∷ c ∷ d ∷ e ∷ rest) four small = absurd (omega arith)
+
+eight_digits : (w : ℕ) → length (encode_lower (to_be_bytes w32 w)) ≡ 8
+unfolding encode_with
+eight_digits w = refl
+
+word_digits : (w : ℕ) → w < 2 ^ 32 → digits_at 16 (encode_lower (to_be_bytes w32 w)) ≡ Ok (w, [])
+word_digits w small =
+    let ds : List ℕ = encode_lower (to_be_bytes w32 w) in
+    let value : digits_value 16 ds ≡ w = value_of_bytes (to_be_bytes w32 w) refl (word_bytes w) ∙ from_be_bytes-to_be_bytes_4 w small in
+    ap (digits_at 16) (sym (append-nil ds))
+    ∙ digits_read 16 ds [] w (omega arith) (omega (arith, eight_digits w), are_digits (to_be_bytes w32 w) (word_bytes w)) (omega (arith, eight_digits w)) value tt
+
+word_operands : (w : ℕ) → w < 2 ^ 32 → operands_at row.Word (32 ∷ 48 ∷ 120 ∷ encode_lower (to_be_bytes w32 w)) ≡ Ok (statement_of row.Word (three 0 0 w), [])
+unfolding parts_at part_at number_at size_at
+word_operands w small =
+    let fits : nat_lt w 0x1_0000_0000 ≡ true = grind (arith, nat_tests) in
+    rw (word_digits w small, fits) refl
+
+pub word_line : (w : ℕ) → w < 2 ^ 32 → line_of (codes ".word 0x" ++ encode_lower (to_be_bytes w32 w)) ≡ Ok (said (statement_of row.Word (three 0 0 w)))
+unfolding line_of rest_of_line statement_at mnemonic_named ended encode_with
+word_line w small = rw (word_operands w small) refl

@@ -63,6 +63,7 @@ fn push_word(alloc: Global, text: &mut Vec<u8>, word: u32) -> Result<(), AllocEr
 /// bytes, or `.word` and eight hexadecimal digits.
 pub fn disassemble(alloc: Global, words: &[u32]) -> Result<Text, Memory>
     ensures text { IfOk result (λ text. text ≡ lines_text words.now) }
+    ensures back { length words.now ≤ 65536 → assembled (lines_text words.now) ≡ Ok words.now }
 {
     let mut items = Vec::new(alloc);
     for word in words {
