@@ -45,8 +45,8 @@ impl<T: Drop> From<AllocFailed<T>> for HexFault {
     }
 }
 
-/// Puts the line of a word behind a text.
-fn push_line(text: &mut Vec<u8>, word: u32) -> Result<(), AllocError>
+/// Puts the line of a word, eight digits and a line feed, behind a text.
+pub fn push_hex_line(text: &mut Vec<u8>, word: u32) -> Result<(), AllocError>
     ensures { OnOk result (text.new.items ≡ text.old.items ++ hex_line word) }
 {
     let mut digits = [0; 8];
@@ -61,7 +61,7 @@ pub fn hex_text(alloc: Global, words: &[u32]) -> Result<Text, Memory>
 {
     let mut items = Vec::new(alloc);
     for word in words {
-        push_line(&mut items, *word)?;
+        push_hex_line(&mut items, *word)?;
     }
     Ok(Text { items })
 }

@@ -9,7 +9,7 @@ pub mod lines;
 pub mod mnemonics;
 pub mod statements;
 
-pub use hexadecimal::{HexFault, hex_text, hex_words};
+pub use hexadecimal::{HexFault, hex_text, hex_words, push_hex_line};
 pub use lines::cut_line;
 pub use mnemonics::{Field, Form, Mnemonic, Operands, Part};
 pub use statements::{AsmFault, Line, Number, Span, Statement};

@@ -5,7 +5,15 @@
 //!
 //! - `parts`: blanks, names, registers and numbers.
 //! - `lines`: statements and whole lines.
+//! - `labels`: the table of labels.
+//! - `listing`: the labels and the statements of a whole text.
+//! - `assembly`: the words, and [`assemble`].
 #![tactic(auto)]
 
+pub mod assembly;
+pub mod labels;
 pub mod lines;
+pub mod listing;
 pub mod parts;
+
+pub use assembly::assemble;
