@@ -17,3 +17,6 @@ pub mod listing;
 pub mod parts;
 
 pub use assembly::assemble;
+
+#[cfg(test)]
+mod tests;
