@@ -258,17 +258,63 @@ pub const ALL: [Mnemonic; 55] = [
     Mnemonic::Word,
 ];
 
-const THREE_REGISTERS: [Part; 5] = [Part::Register, Part::Comma, Part::Register, Part::Comma, Part::Register];
-const IMMEDIATE: [Part; 5] = [Part::Register, Part::Comma, Part::Register, Part::Comma, Part::Number(Field::Immediate)];
-const SHIFT: [Part; 5] = [Part::Register, Part::Comma, Part::Register, Part::Comma, Part::Number(Field::Amount)];
-const MEMORY: [Part; 6] = [Part::Register, Part::Comma, Part::Number(Field::Immediate), Part::Open, Part::Register, Part::Close];
-const BRANCH: [Part; 5] = [Part::Register, Part::Comma, Part::Register, Part::Comma, Part::Place(Field::Branch)];
+const THREE_REGISTERS: [Part; 5] = [
+    Part::Register,
+    Part::Comma,
+    Part::Register,
+    Part::Comma,
+    Part::Register,
+];
+
+const IMMEDIATE: [Part; 5] = [
+    Part::Register,
+    Part::Comma,
+    Part::Register,
+    Part::Comma,
+    Part::Number(Field::Immediate),
+];
+
+const SHIFT: [Part; 5] = [
+    Part::Register,
+    Part::Comma,
+    Part::Register,
+    Part::Comma,
+    Part::Number(Field::Amount),
+];
+
+const MEMORY: [Part; 6] = [
+    Part::Register,
+    Part::Comma,
+    Part::Number(Field::Immediate),
+    Part::Open,
+    Part::Register,
+    Part::Close,
+];
+
+const BRANCH: [Part; 5] = [
+    Part::Register,
+    Part::Comma,
+    Part::Register,
+    Part::Comma,
+    Part::Place(Field::Branch),
+];
+
 const UPPER: [Part; 3] = [Part::Register, Part::Comma, Part::Number(Field::Upper)];
+
 const JUMP: [Part; 3] = [Part::Register, Part::Comma, Part::Place(Field::Jump)];
-const FENCE: [Part; 3] = [Part::Number(Field::FenceSet), Part::Comma, Part::Number(Field::FenceSet)];
+
+const FENCE: [Part; 3] = [
+    Part::Number(Field::FenceSet),
+    Part::Comma,
+    Part::Number(Field::FenceSet),
+];
+
 const CSR: [Part; 3] = [Part::Register, Part::Comma, Part::Number(Field::Csr)];
+
 const ONE_REGISTER: [Part; 1] = [Part::Register];
+
 const TWO_REGISTERS: [Part; 3] = [Part::Register, Part::Comma, Part::Register];
+
 const WORD: [Part; 1] = [Part::Number(Field::Word)];
 
 impl Form {
@@ -363,8 +409,7 @@ impl Mnemonic {
         ensures { result ≡ form_of self }
     {
         match self {
-            Mnemonic::Lui
-            | Mnemonic::Auipc => Form::Upper,
+            Mnemonic::Lui | Mnemonic::Auipc => Form::Upper,
             Mnemonic::Jal => Form::Jump,
             Mnemonic::Jalr
             | Mnemonic::Lb
@@ -387,9 +432,7 @@ impl Mnemonic {
             | Mnemonic::Xori
             | Mnemonic::Ori
             | Mnemonic::Andi => Form::Immediate,
-            Mnemonic::Slli
-            | Mnemonic::Srli
-            | Mnemonic::Srai => Form::Shift,
+            Mnemonic::Slli | Mnemonic::Srli | Mnemonic::Srai => Form::Shift,
             Mnemonic::Add
             | Mnemonic::Sub
             | Mnemonic::Sll
@@ -409,14 +452,10 @@ impl Mnemonic {
             | Mnemonic::Rem
             | Mnemonic::Remu => Form::ThreeRegisters,
             Mnemonic::Fence => Form::Fence,
-            Mnemonic::Ebreak
-            | Mnemonic::Join => Form::Bare,
+            Mnemonic::Ebreak | Mnemonic::Join => Form::Bare,
             Mnemonic::Csrr => Form::Csr,
-            Mnemonic::Tmc
-            | Mnemonic::Split => Form::OneRegister,
-            Mnemonic::Wspawn
-            | Mnemonic::Bar
-            | Mnemonic::Pred => Form::TwoRegisters,
+            Mnemonic::Tmc | Mnemonic::Split => Form::OneRegister,
+            Mnemonic::Wspawn | Mnemonic::Bar | Mnemonic::Pred => Form::TwoRegisters,
             Mnemonic::Word => Form::Word,
         }
     }
@@ -425,62 +464,258 @@ impl Mnemonic {
     pub fn instr(self, operands: Operands) -> Option<Instr>
         ensures { result ≡ instr_of self operands }
     {
-        let Operands { first, second, third } = operands;
+        let Operands {
+            first,
+            second,
+            third,
+        } = operands;
         Some(match self {
-            Mnemonic::Lui => Instr::Lui { rd: second, imm: third },
-            Mnemonic::Auipc => Instr::Auipc { rd: second, imm: third },
-            Mnemonic::Jal => Instr::Jal { rd: second, place: third },
-            Mnemonic::Jalr => Instr::Jalr { rd: first, imm: second, rs1: third },
-            Mnemonic::Beq => Instr::Beq { rs1: first, rs2: second, place: third },
-            Mnemonic::Bne => Instr::Bne { rs1: first, rs2: second, place: third },
-            Mnemonic::Blt => Instr::Blt { rs1: first, rs2: second, place: third },
-            Mnemonic::Bge => Instr::Bge { rs1: first, rs2: second, place: third },
-            Mnemonic::Bltu => Instr::Bltu { rs1: first, rs2: second, place: third },
-            Mnemonic::Bgeu => Instr::Bgeu { rs1: first, rs2: second, place: third },
-            Mnemonic::Lb => Instr::Lb { rd: first, imm: second, rs1: third },
-            Mnemonic::Lh => Instr::Lh { rd: first, imm: second, rs1: third },
-            Mnemonic::Lw => Instr::Lw { rd: first, imm: second, rs1: third },
-            Mnemonic::Lbu => Instr::Lbu { rd: first, imm: second, rs1: third },
-            Mnemonic::Lhu => Instr::Lhu { rd: first, imm: second, rs1: third },
-            Mnemonic::Sb => Instr::Sb { rs2: first, imm: second, rs1: third },
-            Mnemonic::Sh => Instr::Sh { rs2: first, imm: second, rs1: third },
-            Mnemonic::Sw => Instr::Sw { rs2: first, imm: second, rs1: third },
-            Mnemonic::Addi => Instr::Addi { rd: first, rs1: second, imm: third },
-            Mnemonic::Slti => Instr::Slti { rd: first, rs1: second, imm: third },
-            Mnemonic::Sltiu => Instr::Sltiu { rd: first, rs1: second, imm: third },
-            Mnemonic::Xori => Instr::Xori { rd: first, rs1: second, imm: third },
-            Mnemonic::Ori => Instr::Ori { rd: first, rs1: second, imm: third },
-            Mnemonic::Andi => Instr::Andi { rd: first, rs1: second, imm: third },
-            Mnemonic::Slli => Instr::Slli { rd: first, rs1: second, amount: third },
-            Mnemonic::Srli => Instr::Srli { rd: first, rs1: second, amount: third },
-            Mnemonic::Srai => Instr::Srai { rd: first, rs1: second, amount: third },
-            Mnemonic::Add => Instr::Add { rd: first, rs1: second, rs2: third },
-            Mnemonic::Sub => Instr::Sub { rd: first, rs1: second, rs2: third },
-            Mnemonic::Sll => Instr::Sll { rd: first, rs1: second, rs2: third },
-            Mnemonic::Slt => Instr::Slt { rd: first, rs1: second, rs2: third },
-            Mnemonic::Sltu => Instr::Sltu { rd: first, rs1: second, rs2: third },
-            Mnemonic::Xor => Instr::Xor { rd: first, rs1: second, rs2: third },
-            Mnemonic::Srl => Instr::Srl { rd: first, rs1: second, rs2: third },
-            Mnemonic::Sra => Instr::Sra { rd: first, rs1: second, rs2: third },
-            Mnemonic::Or => Instr::Or { rd: first, rs1: second, rs2: third },
-            Mnemonic::And => Instr::And { rd: first, rs1: second, rs2: third },
-            Mnemonic::Mul => Instr::Mul { rd: first, rs1: second, rs2: third },
-            Mnemonic::Mulh => Instr::Mulh { rd: first, rs1: second, rs2: third },
-            Mnemonic::Mulhsu => Instr::Mulhsu { rd: first, rs1: second, rs2: third },
-            Mnemonic::Mulhu => Instr::Mulhu { rd: first, rs1: second, rs2: third },
-            Mnemonic::Div => Instr::Div { rd: first, rs1: second, rs2: third },
-            Mnemonic::Divu => Instr::Divu { rd: first, rs1: second, rs2: third },
-            Mnemonic::Rem => Instr::Rem { rd: first, rs1: second, rs2: third },
-            Mnemonic::Remu => Instr::Remu { rd: first, rs1: second, rs2: third },
-            Mnemonic::Fence => Instr::Fence { before: second, after: third },
+            Mnemonic::Lui => Instr::Lui {
+                rd: second,
+                imm: third,
+            },
+            Mnemonic::Auipc => Instr::Auipc {
+                rd: second,
+                imm: third,
+            },
+            Mnemonic::Jal => Instr::Jal {
+                rd: second,
+                place: third,
+            },
+            Mnemonic::Jalr => Instr::Jalr {
+                rd: first,
+                imm: second,
+                rs1: third,
+            },
+            Mnemonic::Beq => Instr::Beq {
+                rs1: first,
+                rs2: second,
+                place: third,
+            },
+            Mnemonic::Bne => Instr::Bne {
+                rs1: first,
+                rs2: second,
+                place: third,
+            },
+            Mnemonic::Blt => Instr::Blt {
+                rs1: first,
+                rs2: second,
+                place: third,
+            },
+            Mnemonic::Bge => Instr::Bge {
+                rs1: first,
+                rs2: second,
+                place: third,
+            },
+            Mnemonic::Bltu => Instr::Bltu {
+                rs1: first,
+                rs2: second,
+                place: third,
+            },
+            Mnemonic::Bgeu => Instr::Bgeu {
+                rs1: first,
+                rs2: second,
+                place: third,
+            },
+            Mnemonic::Lb => Instr::Lb {
+                rd: first,
+                imm: second,
+                rs1: third,
+            },
+            Mnemonic::Lh => Instr::Lh {
+                rd: first,
+                imm: second,
+                rs1: third,
+            },
+            Mnemonic::Lw => Instr::Lw {
+                rd: first,
+                imm: second,
+                rs1: third,
+            },
+            Mnemonic::Lbu => Instr::Lbu {
+                rd: first,
+                imm: second,
+                rs1: third,
+            },
+            Mnemonic::Lhu => Instr::Lhu {
+                rd: first,
+                imm: second,
+                rs1: third,
+            },
+            Mnemonic::Sb => Instr::Sb {
+                rs2: first,
+                imm: second,
+                rs1: third,
+            },
+            Mnemonic::Sh => Instr::Sh {
+                rs2: first,
+                imm: second,
+                rs1: third,
+            },
+            Mnemonic::Sw => Instr::Sw {
+                rs2: first,
+                imm: second,
+                rs1: third,
+            },
+            Mnemonic::Addi => Instr::Addi {
+                rd: first,
+                rs1: second,
+                imm: third,
+            },
+            Mnemonic::Slti => Instr::Slti {
+                rd: first,
+                rs1: second,
+                imm: third,
+            },
+            Mnemonic::Sltiu => Instr::Sltiu {
+                rd: first,
+                rs1: second,
+                imm: third,
+            },
+            Mnemonic::Xori => Instr::Xori {
+                rd: first,
+                rs1: second,
+                imm: third,
+            },
+            Mnemonic::Ori => Instr::Ori {
+                rd: first,
+                rs1: second,
+                imm: third,
+            },
+            Mnemonic::Andi => Instr::Andi {
+                rd: first,
+                rs1: second,
+                imm: third,
+            },
+            Mnemonic::Slli => Instr::Slli {
+                rd: first,
+                rs1: second,
+                amount: third,
+            },
+            Mnemonic::Srli => Instr::Srli {
+                rd: first,
+                rs1: second,
+                amount: third,
+            },
+            Mnemonic::Srai => Instr::Srai {
+                rd: first,
+                rs1: second,
+                amount: third,
+            },
+            Mnemonic::Add => Instr::Add {
+                rd: first,
+                rs1: second,
+                rs2: third,
+            },
+            Mnemonic::Sub => Instr::Sub {
+                rd: first,
+                rs1: second,
+                rs2: third,
+            },
+            Mnemonic::Sll => Instr::Sll {
+                rd: first,
+                rs1: second,
+                rs2: third,
+            },
+            Mnemonic::Slt => Instr::Slt {
+                rd: first,
+                rs1: second,
+                rs2: third,
+            },
+            Mnemonic::Sltu => Instr::Sltu {
+                rd: first,
+                rs1: second,
+                rs2: third,
+            },
+            Mnemonic::Xor => Instr::Xor {
+                rd: first,
+                rs1: second,
+                rs2: third,
+            },
+            Mnemonic::Srl => Instr::Srl {
+                rd: first,
+                rs1: second,
+                rs2: third,
+            },
+            Mnemonic::Sra => Instr::Sra {
+                rd: first,
+                rs1: second,
+                rs2: third,
+            },
+            Mnemonic::Or => Instr::Or {
+                rd: first,
+                rs1: second,
+                rs2: third,
+            },
+            Mnemonic::And => Instr::And {
+                rd: first,
+                rs1: second,
+                rs2: third,
+            },
+            Mnemonic::Mul => Instr::Mul {
+                rd: first,
+                rs1: second,
+                rs2: third,
+            },
+            Mnemonic::Mulh => Instr::Mulh {
+                rd: first,
+                rs1: second,
+                rs2: third,
+            },
+            Mnemonic::Mulhsu => Instr::Mulhsu {
+                rd: first,
+                rs1: second,
+                rs2: third,
+            },
+            Mnemonic::Mulhu => Instr::Mulhu {
+                rd: first,
+                rs1: second,
+                rs2: third,
+            },
+            Mnemonic::Div => Instr::Div {
+                rd: first,
+                rs1: second,
+                rs2: third,
+            },
+            Mnemonic::Divu => Instr::Divu {
+                rd: first,
+                rs1: second,
+                rs2: third,
+            },
+            Mnemonic::Rem => Instr::Rem {
+                rd: first,
+                rs1: second,
+                rs2: third,
+            },
+            Mnemonic::Remu => Instr::Remu {
+                rd: first,
+                rs1: second,
+                rs2: third,
+            },
+            Mnemonic::Fence => Instr::Fence {
+                before: second,
+                after: third,
+            },
             Mnemonic::Ebreak => Instr::Ebreak,
-            Mnemonic::Csrr => Instr::Csrr { rd: second, csr: third },
+            Mnemonic::Csrr => Instr::Csrr {
+                rd: second,
+                csr: third,
+            },
             Mnemonic::Tmc => Instr::Tmc { rs1: third },
-            Mnemonic::Wspawn => Instr::Wspawn { rs1: second, rs2: third },
+            Mnemonic::Wspawn => Instr::Wspawn {
+                rs1: second,
+                rs2: third,
+            },
             Mnemonic::Split => Instr::Split { rs1: third },
             Mnemonic::Join => Instr::Join,
-            Mnemonic::Bar => Instr::Bar { rs1: second, rs2: third },
-            Mnemonic::Pred => Instr::Pred { rs1: second, rs2: third },
+            Mnemonic::Bar => Instr::Bar {
+                rs1: second,
+                rs2: third,
+            },
+            Mnemonic::Pred => Instr::Pred {
+                rs1: second,
+                rs2: third,
+            },
             Mnemonic::Word => return None,
         })
     }
