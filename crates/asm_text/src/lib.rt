@@ -2,12 +2,13 @@
 //!
 //! - `lines`: a text cut into lines ([`cut_line`]), defined in `specs/Lines.antt`.
 //! - `hexadecimal`: words as lines of eight digits ([`hex_text`]), and back ([`hex_words`]), defined in `specs/HexLines.antt`.
-//! - `mnemonics`: the table of the assembly text, defined in `specs/Mnemonics.antt`.
+//! - `mnemonics`: the table of the assembly text, and `instrs`: its instructions, both defined in `specs/Mnemonics.antt`.
 //! - `statements`: what a line of assembly says, and the faults of a text. `specs/AsmLines.antt` says what a line says, and
 //!   `specs/AsmTexts.antt` (`assembled`) which words a text makes, or which fault it has.
 #![tactic(auto)]
 
 pub mod hexadecimal;
+pub mod instrs;
 pub mod lines;
 pub mod mnemonics;
 pub mod statements;
