@@ -1,7 +1,7 @@
 -- Reading words line after line, as a loop does, and reading back what is written.
-use Rattle.std.proofs.Common.{◌≡◌, ℕ, zero, suc, ◌+◌, ◌-◌, ◌*◌, ◌/◌, ◌%◌, ◌^◌, ◌<◌, ◌≤◌, ◌⊎◌, Bool, true, false, List, [], ◌∷◌, ◌++◌, length, refl, sym, ap, ◌∙◌, append_assoc, arith}
+use Rattle.std.proofs.Common.{◌≡◌, ℕ, zero, suc, ◌+◌, ◌/◌, ◌%◌, ◌^◌, ◌<◌, ◌≤◌, true, false, List, [], ◌∷◌, ◌++◌, length, refl, sym, ap, ◌∙◌, append_assoc, arith}
 use Rattle.std.specs.Prelude.{nat_lt, ◌==◌, slice_index, EachIndex, Result, Ok, Err}
-use Rattle.std.specs.Int.{to_be_bytes, from_be_bytes, w32}
+use Rattle.std.specs.Int.{to_be_bytes, w32}
 use Rattle.std.specs.List.{position_or_len}
 use Rattle.std.proofs.lemmas.Nat.{from_be_bytes-to_be_bytes_4}
 use Rattle.hex.specs.Hex.{IsBytes, decode_sized, encode_lower, encode_with, lower_digits}
@@ -12,7 +12,7 @@ use Rattle.std.proofs.lemmas.List.{append-nil}
 use Rattle.asm_text.specs.declared.hexadecimal.HexFault.{HexFault}
 use Rattle.asm_text.specs.declared.hexadecimal.HexFault.TheVariants.{TooLarge}
 use Rattle.asm_text.specs.Lines.{lines}
-use Rattle.asm_text.specs.HexLines.{most_words, hex_line, hex_lines, hex_word, word_or_fault, word_before, hex_words_from}
+use Rattle.asm_text.specs.HexLines.{most_words, hex_lines, hex_word, word_or_fault, word_before, hex_words_from}
 use Rattle.asm_text.proofs.LineLaws.{by_test, line_before}
 
 -- what was read before, and what is still read
