@@ -5,7 +5,6 @@ pub use Rattle.hex.specs.Hex.{encode_lower, lower_digits}
 unfoldable pub use Rattle.hex.specs.Hex.{encode_with}
 use Rattle.hex.specs.Hex.{decode_sized, is_hex_digit}
 use Rattle.hex.specs.declared.error.FromHexError.{FromHexError}
-use Rattle.vx_base.specs.declared.types.Pos.{Pos}
 use Rattle.asm_text.specs.Lines.{lines}
 use Rattle.asm_text.specs.declared.hexadecimal.HexFault.{HexFault}
 use Rattle.asm_text.specs.declared.hexadecimal.HexFault.TheVariants.{Syntax, TooLarge}

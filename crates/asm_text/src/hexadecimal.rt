@@ -93,8 +93,7 @@ fn word_of_line(number: u32, line: &[u8]) -> Result<u32, HexFault>
 pub fn reads_back()
     ensures { (words : List ℕ) → length words ≤ 65536 → EachIndex words (λ k. slice_index words k < 2 ^ 32)
         → hex_words_of (hex_lines words) ≡ Ok words }
-{
-}
+{}
 
 /// The words of a text of hexadecimal lines. Digits of either case are read, and the last line feed may be missing.
 ///
@@ -111,7 +110,10 @@ pub fn hex_words(alloc: Global, text: &[u8]) -> Result<WordList, HexFault>
         let word = word_of_line(number, line)?;
         if number > MOST_WORDS {
             return Err(HexFault::TooLarge {
-                pos: Pos { line: number, col: 1 },
+                pos: Pos {
+                    line: number,
+                    col: 1,
+                },
                 words: number,
             });
         }

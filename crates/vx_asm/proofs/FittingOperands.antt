@@ -192,8 +192,8 @@ small_number bytes =
     let b : ℕ = slice_index bytes 1 in
     either (not (is_decimal a)) (Err (length bytes)) (if is_two_digits a b then Ok (two_digits a b, drop 2 bytes) else Ok (a - 48, drop 1 bytes)) Small (λ e. tt)
     (λ digit. either (is_two_digits a b) (Ok (two_digits a b, drop 2 bytes)) (Ok (a - 48, drop 1 bytes)) Small
-      (λ two. grind (arith, nat_tests))
-      (λ one. grind (arith, nat_tests)))
+    (λ two. grind (arith, nat_tests))
+    (λ one. grind (arith, nat_tests)))
 
 small_register : (bytes : List ℕ) → Small (register_at bytes)
 unfolding Small register_at

@@ -58,7 +58,7 @@ from_read n line words labels said =
 
 by_reading : (n : ℕ) (line : List ℕ) (words : ℕ) (labels : Labels) (said : Result Line AsmFault)
     → (said >>= λ said. fitting n line (misfit_of said.statement) >>= λ fit. from_read n line words labels said)
-      ≡ ((said >>= λ said. fitting n line (misfit_of said.statement) >>= λ fit. Ok said) >>= from_read n line words labels)
+    ≡ ((said >>= λ said. fitting n line (misfit_of said.statement) >>= λ fit. Ok said) >>= from_read n line words labels)
 by_reading n line words labels (Err f) = refl
 by_reading n line words labels (Ok said) = fit (misfit_of said.statement)
   where

@@ -59,6 +59,7 @@ after_words n words count (Some s) line labels found one e = past (words == most
         let one : w ∷ [] ≡ found = cc in
         rw (sym one) refl
     single (Err f) e = absurd cc
+
     past : (b : Bool) → cond b (Err (TooLarge (record { line = n; col = 1 }) (most_words + 1))) (Ok (words + 1)) ≡ Ok count → length found ≡ 1 → words + length found ≡ count
     past true e many = absurd cc
     past false e many =

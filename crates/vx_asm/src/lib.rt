@@ -11,9 +11,12 @@
 #![tactic(auto)]
 
 pub mod assembly;
-pub mod labels;
-pub mod lines;
-pub mod listing;
-pub mod parts;
+mod labels;
+mod lines;
+mod listing;
+mod parts;
 
 pub use assembly::assemble;
+
+#[cfg(test)]
+mod tests;

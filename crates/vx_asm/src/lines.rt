@@ -6,7 +6,9 @@ ghost use Rattle.asm_text.specs.AsmLines as spec;
 ghost use Rattle.asm_text.specs.AsmLines.{Says};
 ghost use Rattle.asm_text.specs.Mnemonics.{all_mnemonics};
 
-use crate::parts::{begins_name, byte_at, bytes_from, front_of, name_len, number_at, past_blanks, register_at};
+use crate::parts::{
+    begins_name, byte_at, bytes_from, front_of, name_len, number_at, past_blanks, register_at,
+};
 use asm_text::mnemonics::ALL;
 use asm_text::{Field, Line, Mnemonic, Number, Operands, Part, Span, Statement};
 
@@ -58,7 +60,11 @@ fn word_of_number(number: Number) -> u32
     ensures { result ≡ spec.word_of_number number }
 {
     let size = number.size as u32;
-    if number.minus { size.wrapping_neg() } else { size }
+    if number.minus {
+        size.wrapping_neg()
+    } else {
+        size
+    }
 }
 
 /// The statement with one operand more.

@@ -57,7 +57,10 @@ fn pos_at(number: u32, line: &[u8], left: usize) -> Pos
 fn text_of(line: &[u8], span: Span) -> &[u8]
     ensures { result.now ≡ spec.text_of line.now span }
 {
-    front_of(bytes_from(line, line.len().saturating_sub(span.left)), span.len)
+    front_of(
+        bytes_from(line, line.len().saturating_sub(span.left)),
+        span.len,
+    )
 }
 
 /// What the line with this number says.
@@ -97,7 +100,13 @@ fn read_line(number: u32, line: &[u8]) -> Result<Line, AsmFault>
 }
 
 /// Puts the label of a line, which stands before the word with number `word`, behind the labels.
-fn note_label<'a>(labels: &mut Labels<'a>, number: u32, line: &'a [u8], word: u32, label: Option<Span>) -> Result<(), AsmFault>
+fn note_label<'a>(
+    labels: &mut Labels<'a>,
+    number: u32,
+    line: &'a [u8],
+    word: u32,
+    label: Option<Span>,
+) -> Result<(), AsmFault>
     requires { length line.now ≤ 2097152 }
     ensures noted { OnOk result (spec.with_label number line.now word labels.old label ≡ Ok labels.new) }
     ensures fault { IfErr result (λ f. (f ≡ fault.Memory) ⊎ (spec.with_label number line.now word labels.old label ≡ Err f)) }
@@ -160,7 +169,10 @@ fn note_statement<'a>(
     };
     if statements.len() == MOST_WORDS as usize {
         return Err(AsmFault::TooLarge {
-            pos: Pos { line: number, col: 1 },
+            pos: Pos {
+                line: number,
+                col: 1,
+            },
             words: MOST_WORDS + 1,
         });
     }

@@ -82,8 +82,8 @@ pub whole_front : (p : ℕ → Bool) (xs t : List ℕ) → prefix_len p xs ≡ l
 whole_front p [] t all none = none
 whole_front p (x ∷ xs) t all none = by_test (p x)
     (λ e.
-      let rest : prefix_len p xs ≡ length xs = omega (arith, rw e at all) in
-      rw (e, whole_front p xs t rest none) (omega arith))
+    let rest : prefix_len p xs ≡ length xs = omega (arith, rw e at all) in
+    rw (e, whole_front p xs t rest none) (omega arith))
     (λ e. absurd (omega (arith, rw e at all)))
 
 name_no_blank : (c : ℕ) → begins_name c ≡ true → is_blank c ≡ false

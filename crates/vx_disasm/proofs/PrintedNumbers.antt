@@ -137,10 +137,10 @@ onto_short (suc k) zero n acc small =
 onto_short (suc k) (suc j) n acc small = by_test (n / 16 == 0)
     (λ t. rw t (omega arith))
     (λ t.
-      let more : List ℕ = digit_glyph false (n % 16) ∷ acc in
-      let next : n / 16 < sixteens (suc j) = omega arith in
-      let short : length (digits_onto k 16 false (n / 16) more) ≤ suc j + length more = onto_short k j (n / 16) more next in
-      rw t (omega arith))
+    let more : List ℕ = digit_glyph false (n % 16) ∷ acc in
+    let next : n / 16 < sixteens (suc j) = omega arith in
+    let short : length (digits_onto k 16 false (n / 16) more) ≤ suc j + length more = onto_short k j (n / 16) more next in
+    rw t (omega arith))
 
 short : (v : ℕ) → v < 2 ^ 32 → length (hexadecimal v) ≤ 10
 unfolding sixteens digits

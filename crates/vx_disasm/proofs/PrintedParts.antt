@@ -57,13 +57,13 @@ signed_read : (f : Field) (word : ℕ) (t : List ℕ) → number_text f word ≡
     → (2 ^ 31 ≤ word → fits_field f (record { minus = true; size = 2 ^ 32 - word }) ≡ true) → FieldRead f word t
 signed_read f word t printed small stops low high = by_test (nat_lt word (2 ^ 31))
     (λ e.
-      let less : word < 2 ^ 31 = grind (arith, nat_tests) in
-      let written : number_text f word ≡ decimal word = printed ∙ not_negative word less in
-      record { number = record { minus = false; size = word }; read = rw written (number_read word t small stops); fits = low less; same = refl })
+    let less : word < 2 ^ 31 = grind (arith, nat_tests) in
+    let written : number_text f word ≡ decimal word = printed ∙ not_negative word less in
+    record { number = record { minus = false; size = word }; read = rw written (number_read word t small stops); fits = low less; same = refl })
     (λ e.
-      let great : 2 ^ 31 ≤ word = grind (arith, nat_tests) in
-      let written : number_text f word ≡ 45 ∷ decimal (2 ^ 32 - word) = printed ∙ negative word great small in
-      record { number = record { minus = true; size = 2 ^ 32 - word }; read = rw written (minus_read (2 ^ 32 - word) t (omega arith) stops); fits = high great; same = omega arith })
+    let great : 2 ^ 31 ≤ word = grind (arith, nat_tests) in
+    let written : number_text f word ≡ 45 ∷ decimal (2 ^ 32 - word) = printed ∙ negative word great small in
+    record { number = record { minus = true; size = 2 ^ 32 - word }; read = rw written (minus_read (2 ^ 32 - word) t (omega arith) stops); fits = high great; same = omega arith })
 
 pub field_read : (f : Field) (word : ℕ) (t : List ℕ) → in_field f word ≡ true → Stops t → FieldRead f word t
 field_read field.Immediate word t fits stops = signed_read field.Immediate word t refl (grind (arith, nat_tests)) stops (λ less. grind (arith, nat_tests)) (λ great. grind (arith, nat_tests))
@@ -103,11 +103,11 @@ decimal_not_blank word t small = first (first_decimal_byte word t small)
 signed_not_blank : (word : ℕ) (t : List ℕ) → word < 2 ^ 32 → is_blank (slice_index (text.signed word ++ t) 0) ≡ false
 signed_not_blank word t small = by_test (nat_lt word (2 ^ 31))
     (λ e.
-      let less : word < 2 ^ 31 = grind (arith, nat_tests) in
-      rw (not_negative word less) (decimal_not_blank word t small))
+    let less : word < 2 ^ 31 = grind (arith, nat_tests) in
+    rw (not_negative word less) (decimal_not_blank word t small))
     (λ e.
-      let great : 2 ^ 31 ≤ word = grind (arith, nat_tests) in
-      rw (negative word great small) refl)
+    let great : 2 ^ 31 ≤ word = grind (arith, nat_tests) in
+    rw (negative word great small) refl)
 
 number_not_blank : (f : Field) (word : ℕ) (t : List ℕ) → in_field f word ≡ true → is_blank (slice_index (number_text f word ++ t) 0) ≡ false
 number_not_blank field.Immediate word t fits = signed_not_blank word t (grind (arith, nat_tests))
@@ -204,7 +204,7 @@ unfolding parts_at
 one_more part parts s more bytes front rest words all blanks one others same =
     let here : part_at part s (past_blanks bytes) ≡ Ok (more, rest) = ap (part_at part s) blanks ∙ one in
     let whole : parts_at (part ∷ parts) s bytes ≡ Ok (with_words s all, others.rest) =
-      ap (λ (r : Read Statement). r >>= λ (more, rest). parts_at parts more rest) here ∙ others.read ∙ ap (λ (t : Statement). Ok (t, others.rest)) same in
+    ap (λ (r : Read Statement). r >>= λ (more, rest). parts_at parts more rest) here ∙ others.read ∙ ap (λ (t : Statement). Ok (t, others.rest)) same in
     record { rest = others.rest; read = whole; behind = others.behind }
 
 fitting_word : (f : Field) (left : ℕ) (s : Statement) (number : Written) (word : ℕ) → fits_field f number ≡ true → word_of_number number ≡ word → with_number f left s number ≡ with_word s word
@@ -229,11 +229,11 @@ decimal_byte word t small = digit_byte (slice_index (decimal word ++ t) 0) (firs
 signed_byte : (word : ℕ) (t : List ℕ) → word < 2 ^ 32 → (begins_name (slice_index (text.signed word ++ t) 0) ≡ false) × ((slice_index (text.signed word ++ t) 0 == 58) ≡ false)
 signed_byte word t small = by_test (nat_lt word (2 ^ 31))
     (λ e.
-      let less : word < 2 ^ 31 = grind (arith, nat_tests) in
-      rw (not_negative word less) (decimal_byte word t small))
+    let less : word < 2 ^ 31 = grind (arith, nat_tests) in
+    rw (not_negative word less) (decimal_byte word t small))
     (λ e.
-      let great : 2 ^ 31 ≤ word = grind (arith, nat_tests) in
-      rw (negative word great small) (refl, refl))
+    let great : 2 ^ 31 ≤ word = grind (arith, nat_tests) in
+    rw (negative word great small) (refl, refl))
 
 -- a printed place is no label
 no_name : (word : ℕ) (t : List ℕ) → word < 2 ^ 32 → begins_name (slice_index (text.signed word ++ t) 0) ≡ false

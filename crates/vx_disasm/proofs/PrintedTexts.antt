@@ -48,8 +48,8 @@ plain_both [] ys first second = second
 plain_both (x ∷ xs) ys first second = by_test (x == 10)
     (λ e. absurd (omega (arith, rw e at first)))
     (λ e.
-      let rest : position_or_len (λ b. b == 10) xs ≡ length xs = omega (arith, rw e at first) in
-      rw e (omega (arith, plain_both xs ys rest second)))
+    let rest : position_or_len (λ b. b == 10) xs ≡ length xs = omega (arith, rw e at first) in
+    rw e (omega (arith, plain_both xs ys rest second)))
 
 plain_digits : (base : ℕ) (ds : List ℕ) → base ≤ 16 → AllDigits base ds → Plain ds
 plain_digits base [] small all = refl
@@ -68,11 +68,11 @@ plain_hexadecimal v small =
 plain_signed : (v : ℕ) → v < 2 ^ 32 → Plain (text.signed v)
 plain_signed v small = by_test (nat_lt v (2 ^ 31))
     (λ e.
-      let less : v < 2 ^ 31 = grind (arith, nat_tests) in
-      rw (not_negative v less) (plain_decimal v small))
+    let less : v < 2 ^ 31 = grind (arith, nat_tests) in
+    rw (not_negative v less) (plain_decimal v small))
     (λ e.
-      let great : 2 ^ 31 ≤ v = grind (arith, nat_tests) in
-      rw (negative v great small) (plain_after 45 (decimal (2 ^ 32 - v)) refl (plain_decimal (2 ^ 32 - v) (omega arith))))
+    let great : 2 ^ 31 ≤ v = grind (arith, nat_tests) in
+    rw (negative v great small) (plain_after 45 (decimal (2 ^ 32 - v)) refl (plain_decimal (2 ^ 32 - v) (omega arith))))
 
 plain_number : (f : Field) (v : ℕ) → in_field f v ≡ true → Plain (number_text f v)
 plain_number field.Immediate v fits = plain_signed v (grind (arith, nat_tests))
@@ -143,7 +143,8 @@ by_row w (Some i) found small =
       read = instr_line m i known;
       fits = refl;
       no_label = refl;
-      same_word = instr ∙ spelled.same_word }
+      same_word = instr ∙ spelled.same_word;
+    }
 by_row w None found small =
     let ds : List ℕ = encode_lower (to_be_bytes w32 w) in
     record {
@@ -154,7 +155,8 @@ by_row w None found small =
       read = word_line w small;
       fits = refl;
       no_label = refl;
-      same_word = refl }
+      same_word = refl;
+    }
 
 line_reads : (w : ℕ) → w < 2 ^ 32 → LineReads w (line_text w)
 line_reads w small = by_row w (row_of w) refl small

@@ -6,3 +6,6 @@
 pub mod texts;
 
 pub use texts::disassemble;
+
+#[cfg(test)]
+mod tests;
