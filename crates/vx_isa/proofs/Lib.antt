@@ -1,3 +1,4 @@
+mod WorkedWarps
 pub mod RowLaws
 pub mod WordLaws
 pub mod WorkedWords

@@ -2,7 +2,7 @@
 --
 -- The address of the code, the words of the code, the fields that are in the memory and the answers to the lanes' reads
 -- are given. Read `warp_step` at the end first.
-use Rattle.std.specs.Prelude.{◌≡◌, ℕ, zero, suc, ◌+◌, ◌-◌, ◌/◌, ◌%◌, ◌^◌, Bool, true, false, not, ◌&&◌, nat_eq, nat_lt, nat_le, if◌then◌else◌, List, [], ◌∷◌, ◌++◌, map, length, slice_get, Option, Some, None, Result, Ok, Err, is_some}
+use Rattle.std.specs.Prelude.{◌≡◌, ℕ, zero, suc, ◌+◌, ◌-◌, ◌/◌, ◌%◌, Bool, not, ◌&&◌, nat_eq, nat_lt, nat_le, if◌then◌else◌, List, [], ◌∷◌, ◌++◌, map, length, slice_get, Option, Some, None, Result, Ok, Err, is_some}
 use Rattle.vx_base.specs.Bytes.{bytes_of}
 use Rattle.vx_base.specs.declared.types.Size.{Size}
 use Rattle.vx_isa.specs.Effects.{address_at, effect_of}
@@ -44,7 +44,7 @@ pub record Stepped : Type 0 where
 -- ---- one lane
 
 -- what an instruction is to a lane
-abbrev pub effect_in : Instr → WarpState → ℕ → LaneEffect
+unfoldable pub effect_in : Instr → WarpState → ℕ → LaneEffect
 effect_in i w lane = effect_of i w.pc (value_in (w.registers lane) (rs1_of i)) (value_in (w.registers lane) (rs2_of i))
 
 -- where an effect leads from an instruction
@@ -133,7 +133,7 @@ lane_accesses i answers w lane =
     else []
 
 -- the accesses of the active lanes below a number, in ascending order
-pub accesses_below : ℕ → Instr → (ℕ → ℕ) → WarpState → List LaneAccess
+unfoldable pub accesses_below : ℕ → Instr → (ℕ → ℕ) → WarpState → List LaneAccess
 accesses_below zero i answers w = []
 accesses_below (suc n) i answers w = accesses_below n i answers w ++ lane_accesses i answers w n
 
@@ -234,7 +234,7 @@ abbrev pub decoded : Option ℕ → Result Instr MachineTrap
 decoded None = Err trap.Bus
 decoded (Some word) = read_as (row_of word)
 
-abbrev pub fetched : List ℕ → ℕ → Result Instr MachineTrap
+unfoldable pub fetched : List ℕ → ℕ → Result Instr MachineTrap
 fetched code pc = decoded (word_at code pc)
 
 -- what an instruction makes of a warp
@@ -259,7 +259,7 @@ warp_step has ids code answers w = fetched_step has ids answers w (fetched code 
 -- ---- on a memory
 
 -- a memory goes by the accesses, in order, from one state to another
-pub Makes : {M : Type 0} → (M → Access → M → Type 0) → M → List LaneAccess → M → Type 0
+abbrev pub Makes : {M : Type 0} → (M → Access → M → Type 0) → M → List LaneAccess → M → Type 0
 Makes acts m [] m' = m' ≡ m
 Makes {M} acts m (a ∷ rest) m' = (between : M) × acts m a.access between × Makes acts between rest m'
 

@@ -46,7 +46,7 @@ abbrev pub has_lane : ℕ → ℕ → Bool
 has_lane mask lane = nat_eq (mask / 2 ^ lane % 2) 1
 
 -- the set of the lanes below a number for which a test holds
-pub lanes_below : ℕ → (ℕ → Bool) → ℕ
+unfoldable pub lanes_below : ℕ → (ℕ → Bool) → ℕ
 lanes_below zero test = 0
 lanes_below (suc n) test = lanes_below n test + (if test n then 2 ^ n else 0)
 
@@ -54,7 +54,7 @@ abbrev pub lanes_where : (ℕ → Bool) → ℕ
 lanes_where test = lanes_below 32 test
 
 -- the least number below a bound for which a test holds, and the bound where it holds for none
-pub least_below : ℕ → (ℕ → Bool) → ℕ
+unfoldable pub least_below : ℕ → (ℕ → Bool) → ℕ
 least_below zero test = 0
 least_below (suc n) test = if test 0 then 0 else suc (least_below n (λ k. test (suc k)))
 
