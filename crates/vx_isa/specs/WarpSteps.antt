@@ -263,9 +263,10 @@ abbrev pub Makes : {M : Type 0} → (M → Access → M → Type 0) → M → Li
 Makes acts m [] m' = m' ≡ m
 Makes {M} acts m (a ∷ rest) m' = (between : M) × acts m a.access between × Makes acts between rest m'
 
--- The step of a warp on a memory: its reads are answered in some way, which the memory's relation allows.
-pub record StepsOn {M : Type 0} (acts : M → Access → M → Type 0) (has : Fields) (ids : Ids) (code : List ℕ) (w : WarpState) (m : M) (outcome : Step) (w' : WarpState) (m' : M) : Type 0 where
+-- A step on a memory, as a function of the answers to the lanes' reads: for some answers that the memory's relation allows,
+-- the accesses, the warp and the outcome are those of the step.
+pub record Takes {M : Type 0} (acts : M → Access → M → Type 0) (stepped : (ℕ → ℕ) → Stepped) (m : M) (outcome : Step) (w' : WarpState) (m' : M) : Type 0 where
   pub answers : ℕ → ℕ
-  pub made : Makes acts m (warp_step has ids code answers w).accesses m'
-  pub warp_is : w' ≡ (warp_step has ids code answers w).warp
-  pub outcome_is : outcome ≡ (warp_step has ids code answers w).outcome
+  pub made : Makes acts m (stepped answers).accesses m'
+  pub warp_is : w' ≡ (stepped answers).warp
+  pub outcome_is : outcome ≡ (stepped answers).outcome

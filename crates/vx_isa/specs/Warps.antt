@@ -1,11 +1,10 @@
 -- What a warp is, and sets of its lanes. A set of lanes is a number below 2 ^ 32: lane k is in it where bit k is 1.
-use Rattle.std.specs.Prelude.{ℕ, zero, suc, ◌+◌, ◌/◌, ◌%◌, ◌^◌, Bool, ◌&&◌, nat_eq, nat_lt, if◌then◌else◌, List}
+use Rattle.std.specs.Prelude.{ℕ, zero, suc, ◌+◌, ◌/◌, ◌%◌, ◌^◌, Bool, true, false, ◌&&◌, nat_eq, nat_lt, if◌then◌else◌, List, []}
 use Rattle.vx_base.specs.Values.{fitted}
 use Rattle.vx_base.specs.declared.types.Elem.{Elem}
 use Rattle.vx_base.specs.declared.types.Elem.TheVariants.{Char, Uchar, Short, Ushort, Uint}
 use Rattle.vx_base.specs.declared.types.Size.{Size}
 use Rattle.vx_base.specs.declared.types.Size.TheVariants.{One, Two, Four}
-use Rattle.std.specs.Prelude.{true, false}
 use Rattle.vx_isa.specs.declared.warps.Held.{Held}
 
 -- the values of a lane's registers, by number
@@ -40,6 +39,10 @@ pub record WarpState : Type 0 where
   pub mask : ℕ
   pub registers : ℕ → Registers
   pub stack : List Held
+
+-- a warp that has just started
+abbrev pub started : ℕ → ℕ → WarpState
+started pc mask = record { pc = pc; mask = mask; registers = λ lane r. 0; stack = [] }
 
 -- whether a lane is in a set
 abbrev pub has_lane : ℕ → ℕ → Bool

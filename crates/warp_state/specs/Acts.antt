@@ -1,0 +1,40 @@
+-- What the lanes of a warp do one after another.
+use Rattle.std.specs.Prelude.{◌≡◌, ℕ, ◌<◌, Option, Some, None, Result, Ok, Err, List, map}
+use Rattle.vx_isa.specs.Warps.{Registers, WarpState}
+use Rattle.vx_isa.specs.WarpSteps.{Access, LaneAccess, Fields, Makes, fault_of, registers_after, access_of, lane_fault, acted_below, accesses_below}
+use Rattle.vx_isa.specs.declared.instr.Instr.{Instr}
+use Rattle.vx_isa.specs.declared.instr.LaneEffect.{LaneEffect}
+use Rattle.vx_isa.specs.declared.warps.Ids.{Ids}
+use Rattle.vx_isa.specs.declared.warps.MachineTrap.{MachineTrap}
+use Rattle.warp_state.specs.declared.lanes.Stop.{Stop}
+
+-- the accesses of a lane
+abbrev pub accesses_as : ℕ → List Access → List LaneAccess
+accesses_as lane accesses = map (λ a. record { lane = lane; access = a }) accesses
+
+-- a lane has done its effect: it had no cause to trap
+pub record HasActed {M : Type 0} (acts : M → Access → M → Type 0) (has : Fields) (ids : Ids) (mask lane pc chosen : ℕ) (e : LaneEffect) (registers : Registers) (m : M) (registers' : Registers) (m' : M) : Type 0 where
+  pub answer : ℕ
+  pub no_fault : fault_of has pc chosen e ≡ None
+  pub made : Makes acts m (accesses_as lane (access_of answer e)) m'
+  pub registers_are : registers' ≡ registers_after ids mask lane answer e registers
+
+-- a lane has trapped, and nothing has changed
+pub record HasTrapped {M : Type 0} (has : Fields) (pc chosen : ℕ) (e : LaneEffect) (fault : MachineTrap) (registers : Registers) (m : M) (registers' : Registers) (m' : M) : Type 0 where
+  pub fault_is : fault_of has pc chosen e ≡ Some fault
+  pub same_registers : registers' ≡ registers
+  pub same_memory : m' ≡ m
+
+-- The active lanes below a number have acted, and none of them had a cause to trap. What they have read are the answers;
+-- what later lanes will read does not matter to them.
+pub record HaveActed {M : Type 0} (acts : M → Access → M → Type 0) (has : Fields) (ids : Ids) (i : Instr) (w : WarpState) (m : M) (below : ℕ) (registers : ℕ → Registers) (m' : M) : Type 0 where
+  pub answers : ℕ → ℕ
+  pub made : (a : ℕ → ℕ) → ((lane : ℕ) → lane < below → a lane ≡ answers lane) → Makes acts m (accesses_below below i a w) m'
+  pub registers_are : (a : ℕ → ℕ) → ((lane : ℕ) → lane < below → a lane ≡ answers lane) → registers ≡ acted_below below ids i a w
+  pub no_fault : (lane : ℕ) → lane < below → lane_fault has i w lane ≡ None
+
+-- The active lanes have acted up to one that traps.
+pub record HaveStopped {M : Type 0} (acts : M → Access → M → Type 0) (has : Fields) (ids : Ids) (i : Instr) (w : WarpState) (m : M) (stop : Stop) (registers : ℕ → Registers) (m' : M) : Type 0 where
+  pub below : HaveActed acts has ids i w m stop.lane registers m'
+  pub is_lane : stop.lane < 32
+  pub fault_is : lane_fault has i w stop.lane ≡ Some stop.fault

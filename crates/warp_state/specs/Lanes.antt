@@ -1,0 +1,15 @@
+-- The registers of the lanes of a warp as functions.
+use Rattle.std.specs.Prelude.{ℕ, List, slice_index, slice_index_or, replicate}
+use Rattle.vx_isa.specs.Warps.{Registers}
+use Rattle.warp_state.specs.declared.lane.Lane.{Lane}
+
+-- a lane whose registers are all 0
+abbrev pub idle : Lane
+idle = record { registers = replicate 32 0 }
+
+abbrev pub registers_of : Lane → Registers
+registers_of lane r = slice_index lane.registers r
+
+-- the registers of each of some lanes
+abbrev pub registers_in : List Lane → ℕ → Registers
+registers_in lanes lane = registers_of (slice_index_or lanes lane idle)

@@ -1,0 +1,3 @@
+pub struct Warp {
+    pc: u32,
+}
