@@ -1,7 +1,8 @@
 -- What the lanes of a warp do one after another.
-use Rattle.std.specs.Prelude.{◌≡◌, ℕ, ◌<◌, Option, Some, None, Result, Ok, Err, List, map}
-use Rattle.vx_isa.specs.Warps.{Registers, WarpState}
-use Rattle.vx_isa.specs.WarpSteps.{Access, LaneAccess, Fields, Makes, fault_of, registers_after, access_of, lane_fault, acted_below, accesses_below}
+use Rattle.std.specs.Prelude.{◌≡◌, ℕ, ◌<◌, Bool, Option, Some, None, Result, Ok, Err, List, map}
+use Rattle.vx_base.specs.declared.types.Size.{Size}
+use Rattle.vx_isa.specs.Warps.{Registers, WarpState, with_register, loaded}
+use Rattle.vx_isa.specs.WarpSteps.{Access, Reads, Writes, LaneAccess, field_fault, Fields, Makes, fault_of, registers_after, access_of, lane_fault, acted_below, accesses_below}
 use Rattle.vx_isa.specs.declared.instr.Instr.{Instr}
 use Rattle.vx_isa.specs.declared.instr.LaneEffect.{LaneEffect}
 use Rattle.vx_isa.specs.declared.warps.Ids.{Ids}
@@ -11,6 +12,24 @@ use Rattle.warp_state.specs.declared.lanes.Stop.{Stop}
 -- the accesses of a lane
 abbrev pub accesses_as : ℕ → List Access → List LaneAccess
 accesses_as lane accesses = map (λ a. record { lane = lane; access = a }) accesses
+
+-- a load, which its lane had no cause to refuse
+pub record LoadsField {M : Type 0} (acts : M → Access → M → Type 0) (has : Fields) (rd address : ℕ) (size : Size) (signed : Bool) (registers : Registers) (m : M) (registers' : Registers) (m' : M) : Type 0 where
+  pub answer : ℕ
+  pub no_fault : field_fault has address size ≡ None
+  pub made : acts m (Reads address size answer) m'
+  pub registers_are : registers' ≡ with_register rd (loaded size signed answer) registers
+
+-- a load that its lane refuses
+pub record RefusesField {M : Type 0} (has : Fields) (address : ℕ) (size : Size) (fault : MachineTrap) (registers : Registers) (m : M) (registers' : Registers) (m' : M) : Type 0 where
+  pub fault_is : field_fault has address size ≡ Some fault
+  pub same_registers : registers' ≡ registers
+  pub same_memory : m' ≡ m
+
+-- a store, which its lane had no cause to refuse
+pub record StoresField {M : Type 0} (acts : M → Access → M → Type 0) (has : Fields) (address : ℕ) (size : Size) (value : ℕ) (m m' : M) : Type 0 where
+  pub no_fault : field_fault has address size ≡ None
+  pub made : acts m (Writes address size value) m'
 
 -- a lane has done its effect: it had no cause to trap
 pub record HasActed {M : Type 0} (acts : M → Access → M → Type 0) (has : Fields) (ids : Ids) (mask lane pc chosen : ℕ) (e : LaneEffect) (registers : Registers) (m : M) (registers' : Registers) (m' : M) : Type 0 where

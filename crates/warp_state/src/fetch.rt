@@ -8,6 +8,7 @@ use vx_isa::{Instr, MachineTrap};
 const CODE_START: u32 = 0x8000_0000;
 
 /// The instruction at an address.
+#[tactic(auto, unfolding(vx_isa::specs::WarpSteps::fetched))]
 pub fn fetch(code: &[u32], pc: u32) -> Result<Instr, MachineTrap>
     ensures { result ≡ fetched code.now pc }
 {

@@ -1,7 +1,7 @@
-ghost use Rattle.std.specs.Prelude.{◌≡◌, MatchResult, None, Some};
+ghost use Rattle.std.specs.Prelude.{◌≡◌, MatchResult};
 ghost use Rattle.vx_isa.specs.Warps.{loaded, loaded_as, value_in, with_register};
-ghost use Rattle.vx_isa.specs.WarpSteps.{choice_of, csr_value, leads_to, way_fault};
-ghost use Rattle.warp_state.specs.Acts.{HasActed, HasTrapped};
+ghost use Rattle.vx_isa.specs.WarpSteps.{choice_of, csr_value, field_fault, leads_to, way_fault};
+ghost use Rattle.warp_state.specs.Acts.{HasActed, HasTrapped, LoadsField, RefusesField, StoresField};
 ghost use Rattle.warp_state.specs.Lanes.{idle, registers_of};
 
 use crate::memory::LaneMemory;
@@ -121,5 +121,111 @@ fn check_way(shared: &Shared, did: LaneEffect) -> Result<(), MachineTrap>
     if leads_to(shared.pc, did) % 4 != 0 {
         return Err(MachineTrap::Misaligned);
     }
+    Ok(())
+}
+
+/// A lane loads a field into a register.
+fn load<M: LaneMemory>(
+    lane: &mut Lane,
+    memory: &mut M,
+    rd: u32,
+    address: u32,
+    size: Size,
+    signed: bool,
+) -> Result<(), MachineTrap>
+    requires { M.is_sound memory.old }
+    ensures loaded { MatchResult result
+        (λ _. LoadsField M.acts (M.has memory.old) rd address size signed (registers_of lane.old) memory.old (registers_of lane.new) memory.new)
+        (λ fault. RefusesField (M.has memory.old) address size fault (registers_of lane.old) memory.old (registers_of lane.new) memory.new) }
+    ensures same_fields { M.has memory.new ≡ M.has memory.old }
+    ensures sound { M.is_sound memory.new }
+{
+    if address % size.bytes() != 0 {
+        return Err(MachineTrap::Misaligned);
+    }
+    match memory.read(address, size) {
+        Some(answer) => {
+            lane.set(rd, fit(loaded_as(size, signed), answer));
+            Ok(())
+        }
+        None => Err(MachineTrap::Bus),
+    }
+}
+
+/// A lane stores the low bytes of a value to a field.
+fn store<M: LaneMemory>(
+    memory: &mut M,
+    address: u32,
+    size: Size,
+    value: u32,
+) -> Result<(), MachineTrap>
+    requires { M.is_sound memory.old }
+    ensures stored { MatchResult result
+        (λ _. StoresField M.acts (M.has memory.old) address size value memory.old memory.new)
+        (λ fault. (field_fault (M.has memory.old) address size ≡ Some fault) × (memory.new ≡ memory.old)) }
+    ensures same_fields { M.has memory.new ≡ M.has memory.old }
+    ensures sound { M.is_sound memory.new }
+{
+    if address % size.bytes() != 0 {
+        return Err(MachineTrap::Misaligned);
+    }
+    if memory.write(address, size, value) {
+        Ok(())
+    } else {
+        Err(MachineTrap::Bus)
+    }
+}
+
+/// The lane with this number does its effect. A lane that traps leaves all as it was.
+pub fn act<M: LaneMemory>(
+    lane: &mut Lane,
+    number: u32,
+    shared: &Shared,
+    did: LaneEffect,
+    memory: &mut M,
+) -> Result<(), MachineTrap>
+    requires { M.is_sound memory.old }
+    ensures acted { MatchResult result
+        (λ _. HasActed M.acts (M.has memory.old) shared.now.ids shared.now.mask number shared.now.pc shared.now.chosen did (registers_of lane.old) memory.old (registers_of lane.new) memory.new)
+        (λ fault. HasTrapped (M.has memory.old) shared.now.pc shared.now.chosen did fault (registers_of lane.old) memory.old (registers_of lane.new) memory.new) }
+    ensures same_fields { M.has memory.new ≡ M.has memory.old }
+    ensures sound { M.is_sound memory.new }
+{
+    match did {
+        LaneEffect::Write { rd, value } => lane.set(rd, value),
+        LaneEffect::Load {
+            rd,
+            address,
+            size,
+            signed,
+        } => return load(lane, memory, rd, address, size, signed),
+        LaneEffect::Store {
+            address,
+            size,
+            value,
+        } => return store(memory, address, size, value),
+        LaneEffect::Branch { .. } => return check_way(shared, did),
+        LaneEffect::Jump { rd, link, .. } => return jump(lane, shared, did, rd, link),
+        LaneEffect::Csr { rd, csr } => lane.set(rd, csr_value(shared, number, csr)),
+        LaneEffect::Break => return Err(MachineTrap::Break),
+        LaneEffect::Warp | LaneEffect::Nothing => {}
+    }
+    Ok(())
+}
+
+/// A lane jumps and leaves the link in a register.
+fn jump(
+    lane: &mut Lane,
+    shared: &Shared,
+    did: LaneEffect,
+    rd: u32,
+    link: u32,
+) -> Result<(), MachineTrap>
+    ensures { MatchResult result
+        (λ _. (way_fault shared.now.pc shared.now.chosen did ≡ None) × (registers_of lane.new ≡ with_register rd link (registers_of lane.old)))
+        (λ fault. (way_fault shared.now.pc shared.now.chosen did ≡ Some fault) × (registers_of lane.new ≡ registers_of lane.old)) }
+{
+    check_way(shared, did)?;
+    lane.set(rd, link);
     Ok(())
 }
