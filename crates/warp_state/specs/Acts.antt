@@ -1,12 +1,13 @@
 -- What the lanes of a warp do one after another.
-use Rattle.std.specs.Prelude.{◌≡◌, ℕ, ◌<◌, Bool, Option, Some, None, Result, Ok, Err, List, map}
+use Rattle.std.specs.Prelude.{◌≡◌, ℕ, ◌<◌, Bool, Option, Some, None, Result, Ok, Err, List, [], map}
 use Rattle.vx_base.specs.declared.types.Size.{Size}
-use Rattle.vx_isa.specs.Warps.{Registers, WarpState, with_register, loaded}
-use Rattle.vx_isa.specs.WarpSteps.{Access, Reads, Writes, LaneAccess, field_fault, Fields, Makes, fault_of, registers_after, access_of, lane_fault, acted_below, accesses_below}
+use Rattle.vx_isa.specs.Warps.{leader, Registers, WarpState, with_register, loaded}
+use Rattle.vx_isa.specs.WarpSteps.{choice_of, effect_in, Access, Reads, Writes, LaneAccess, field_fault, Fields, Makes, fault_of, registers_after, access_of, lane_fault, acted_below, accesses_below}
 use Rattle.vx_isa.specs.declared.instr.Instr.{Instr}
 use Rattle.vx_isa.specs.declared.instr.LaneEffect.{LaneEffect}
 use Rattle.vx_isa.specs.declared.warps.Ids.{Ids}
 use Rattle.vx_isa.specs.declared.warps.MachineTrap.{MachineTrap}
+use Rattle.warp_state.specs.declared.lane.Shared.{Shared}
 use Rattle.warp_state.specs.declared.lanes.Stop.{Stop}
 
 -- the accesses of a lane
@@ -57,3 +58,11 @@ pub record HaveStopped {M : Type 0} (acts : M → Access → M → Type 0) (has 
   pub below : HaveActed acts has ids i w m stop.lane registers m'
   pub is_lane : stop.lane < 32
   pub fault_is : lane_fault has i w stop.lane ≡ Some stop.fault
+
+-- the warp whose lanes share this and have these registers; its stack does not matter to them
+abbrev pub warp_of : Shared → (ℕ → Registers) → WarpState
+warp_of shared registers = record { pc = shared.pc; mask = shared.mask; registers = registers; stack = [] }
+
+-- what is chosen is the choice of the least active lane
+abbrev pub IsChosen : Shared → Instr → (ℕ → Registers) → Type 0
+IsChosen shared i registers = shared.chosen ≡ choice_of (effect_in i (warp_of shared registers) (leader shared.mask))

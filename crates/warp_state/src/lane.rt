@@ -192,25 +192,30 @@ pub fn act<M: LaneMemory>(
     ensures sound { M.is_sound memory.new }
 {
     match did {
-        LaneEffect::Write { rd, value } => lane.set(rd, value),
+        LaneEffect::Write { rd, value } => {
+            lane.set(rd, value);
+            Ok(())
+        }
         LaneEffect::Load {
             rd,
             address,
             size,
             signed,
-        } => return load(lane, memory, rd, address, size, signed),
+        } => load(lane, memory, rd, address, size, signed),
         LaneEffect::Store {
             address,
             size,
             value,
-        } => return store(memory, address, size, value),
-        LaneEffect::Branch { .. } => return check_way(shared, did),
-        LaneEffect::Jump { rd, link, .. } => return jump(lane, shared, did, rd, link),
-        LaneEffect::Csr { rd, csr } => lane.set(rd, csr_value(shared, number, csr)),
-        LaneEffect::Break => return Err(MachineTrap::Break),
-        LaneEffect::Warp | LaneEffect::Nothing => {}
+        } => store(memory, address, size, value),
+        LaneEffect::Branch { .. } => check_way(shared, did),
+        LaneEffect::Jump { rd, link, .. } => jump(lane, shared, did, rd, link),
+        LaneEffect::Csr { rd, csr } => {
+            lane.set(rd, csr_value(shared, number, csr));
+            Ok(())
+        }
+        LaneEffect::Break => Err(MachineTrap::Break),
+        LaneEffect::Warp | LaneEffect::Nothing => Ok(()),
     }
-    Ok(())
 }
 
 /// A lane jumps and leaves the link in a register.
