@@ -1,7 +1,9 @@
 -- What the lanes of a warp do one after another.
 use Rattle.std.specs.Prelude.{◌≡◌, ℕ, ◌<◌, Bool, Option, Some, None, Result, Ok, Err, List, [], map}
 use Rattle.vx_base.specs.declared.types.Size.{Size}
-use Rattle.vx_isa.specs.Warps.{leader, Registers, WarpState, with_register, loaded}
+use Rattle.vx_isa.specs.Effects.{effect_of}
+use Rattle.vx_isa.specs.Operands.{rs1_of, rs2_of}
+use Rattle.vx_isa.specs.Warps.{leader, value_in, Registers, WarpState, with_register, loaded}
 use Rattle.vx_isa.specs.WarpSteps.{choice_of, effect_in, Access, Reads, Writes, LaneAccess, field_fault, Fields, Makes, fault_of, registers_after, access_of, lane_fault, acted_below, accesses_below}
 use Rattle.vx_isa.specs.declared.instr.Instr.{Instr}
 use Rattle.vx_isa.specs.declared.instr.LaneEffect.{LaneEffect}
@@ -9,6 +11,10 @@ use Rattle.vx_isa.specs.declared.warps.Ids.{Ids}
 use Rattle.vx_isa.specs.declared.warps.MachineTrap.{MachineTrap}
 use Rattle.warp_state.specs.declared.lane.Shared.{Shared}
 use Rattle.warp_state.specs.declared.lanes.Stop.{Stop}
+
+-- what an instruction is to a lane with these registers
+abbrev pub effect_at : Instr → ℕ → Registers → LaneEffect
+effect_at i pc registers = effect_of i pc (value_in registers (rs1_of i)) (value_in registers (rs2_of i))
 
 -- the accesses of a lane
 abbrev pub accesses_as : ℕ → List Access → List LaneAccess

@@ -1,14 +1,11 @@
-ghost use Rattle.std.specs.Prelude.{◌≡◌, MatchResult};
-ghost use Rattle.vx_isa.specs.Effects.{effect_of};
-ghost use Rattle.vx_isa.specs.Operands.{rs1_of, rs2_of};
-ghost use Rattle.vx_isa.specs.Warps.{value_in};
-ghost use Rattle.warp_state.specs.Acts.{HaveActed, HaveStopped, IsChosen, warp_of};
-ghost use Rattle.warp_state.specs.Lanes.{registers_in, registers_of};
+ghost use Rattle.std.specs.Prelude.{◌≡◌, ◌≢◌, ◌<◌, ℕ, MatchResult};
+ghost use Rattle.warp_state.specs.Acts.{HasActed, HasTrapped, HaveActed, HaveStopped, IsChosen, effect_at, warp_of};
+ghost use Rattle.warp_state.specs.Lanes.{registers_in};
 
 use crate::lane::{Lane, Shared, act};
 use crate::masks::has_lane;
 use crate::memory::LaneMemory;
-use vx_isa::{Instr, LaneEffect, MachineTrap, effect};
+use vx_isa::{Instr, MachineTrap, effect};
 
 /// The most lanes that a warp can have.
 pub const LANES: u32 = 32;
@@ -22,12 +19,26 @@ pub struct Stop {
     pub lane: u32,
 }
 
-/// What an instruction is to a lane.
-#[inline]
-pub fn effect_in(i: Instr, pc: u32, lane: &Lane) -> LaneEffect
-    ensures { result ≡ effect_of i pc (value_in (registers_of lane.now) (rs1_of i)) (value_in (registers_of lane.now) (rs2_of i)) }
+/// An active lane does an instruction. A lane that traps leaves all as it was.
+fn act_at<M: LaneMemory>(
+    lanes: &mut [Lane; 32],
+    number: u32,
+    i: Instr,
+    shared: &Shared,
+    memory: &mut M,
+) -> Result<(), MachineTrap>
+    requires sound { M.is_sound memory.old }
+    requires lane { number < 32 }
+    ensures acted { MatchResult result
+        (λ _. HasActed M.acts (M.has memory.old) shared.now.ids shared.now.mask number shared.now.pc shared.now.chosen (effect_at i shared.now.pc (registers_in lanes.old number)) (registers_in lanes.old number) memory.old (registers_in lanes.new number) memory.new)
+        (λ fault. HasTrapped (M.has memory.old) shared.now.pc shared.now.chosen (effect_at i shared.now.pc (registers_in lanes.old number)) fault (registers_in lanes.old number) memory.old (registers_in lanes.new number) memory.new) }
+    ensures others { (lane : ℕ) → (lane ≢ number) → registers_in lanes.new lane ≡ registers_in lanes.old lane }
+    ensures same_fields { M.has memory.new ≡ M.has memory.old }
+    ensures sound { M.is_sound memory.new }
 {
-    effect(i, pc, lane.value(i.rs1()), lane.value(i.rs2()))
+    let lane = &mut lanes[number as usize];
+    let did = effect(i, shared.pc, lane.value(i.rs1()), lane.value(i.rs2()));
+    act(lane, number, shared, did, memory)
 }
 
 /// The active lanes do an instruction in ascending order, up to the first that traps.
@@ -47,9 +58,7 @@ pub fn act_all<M: LaneMemory>(
 {
     for number in 0..LANES {
         if has_lane(shared.mask, number) {
-            let lane = &mut lanes[number as usize];
-            let did = effect_in(i, shared.pc, lane);
-            if let Err(fault) = act(lane, number, shared, did, memory) {
+            if let Err(fault) = act_at(lanes, number, i, shared, memory) {
                 return Err(Stop {
                     fault,
                     lane: number,
