@@ -2,17 +2,18 @@
 use Rattle.std.proofs.Common.{◌≡◌, ℕ, zero, suc, ◌<◌, ◌≤◌, Bool, true, false, ◌&&◌, nat_eq, nat_lt, if◌then◌else◌, List, [], ◌∷◌, ◌++◌, Option, Some, None, inl, inr, ap, sym, ◌∙◌, subst, arith, refl, lt-ltb, le-ltb, eq-eqb, ne_eqb}
 use Rattle.std.proofs.Math.Path.{fun_ext}
 use Rattle.std.proofs.lemmas.Bool.{cases_lt, cases_eq}
-use Rattle.vx_isa.specs.Warps.{Registers, WarpState, has_lane}
-use Rattle.vx_isa.specs.WarpSteps.{Access, LaneAccess, Fields, Makes, effect_in, registers_after, lane_fault, lane_accesses, acted_below, accesses_below}
+use Rattle.vx_isa.specs.Warps.{Registers, WarpState, has_lane, leader}
+use Rattle.vx_isa.specs.WarpSteps.{Access, LaneAccess, Fields, Makes, choice_of, fault_of, effect_in, registers_after, lane_fault, lane_accesses, acted_below, accesses_below}
 use Rattle.vx_isa.specs.declared.instr.Instr.{Instr}
 use Rattle.vx_isa.specs.declared.warps.Ids.{Ids}
-use Rattle.warp_state.specs.Acts.{HaveActed}
+use Rattle.warp_state.specs.Acts.{HasActed, HasTrapped, HaveActed, HaveStopped, effect_at}
+use Rattle.warp_state.specs.declared.lanes.Stop.{Stop}
 
 -- accesses, and then further ones
-pub Makes-append : {M : Type 0} (acts : M → Access → M → Type 0) (first then : List LaneAccess) (m m' m'' : M) → Makes acts m first m' → Makes acts m' then m'' → Makes acts m (first ++ then) m''
-Makes-append {M} acts [] then m m' m'' same made = subst (λ (n : M). Makes acts n then m'') same made
-Makes-append acts (a ∷ rest) then m m' m'' made more =
-    (made.0, (made.1, Makes-append acts rest then made.0 m' m'' made.2 more))
+pub Makes-append : {M : Type 0} (acts : M → Access → M → Type 0) (first later : List LaneAccess) (m m' m'' : M) → Makes acts m first m' → Makes acts m' later m'' → Makes acts m (first ++ later) m''
+Makes-append {M} acts [] later m m' m'' same made = subst (λ (n : M). Makes acts n later m'') same made
+Makes-append acts (a ∷ rest) later m m' m'' made more =
+    (made.0, made.1, Makes-append acts rest later made.0 m' m'' made.2 more)
 
 -- before the first lane
 pub none_acted : {M : Type 0} (acts : M → Access → M → Type 0) (has : Fields) (ids : Ids) (i : Instr) (w : WarpState) (m : M) → HaveActed acts has ids i w m 0 w.registers m
@@ -21,7 +22,7 @@ none_acted acts has ids i w m = record {
   answers = λ lane. 0;
   made = λ a same. refl;
   registers_are = λ a same. fun_ext (λ lane. rw (le-ltb lane 0 (omega arith)) refl);
-  no_fault = λ lane less. omega arith;
+  no_fault = λ lane less. let none : ⊥ = omega arith in absurd none;
 }
 
 -- answers with one at a lane
@@ -85,4 +86,57 @@ one_more_acted acts has ids i w m k registers m' acted answer registers' m'' mad
           | inl equal ↦ subst (λ (n : ℕ). lane_fault has i w n ≡ None) (sym equal) no_fault
           | inr other ↦ acted.no_fault l (omega arith)
         ];
+    }
+
+-- a lane that has not acted has its registers
+own_registers : {M : Type 0} {acts : M → Access → M → Type 0} {has : Fields} {ids : Ids} {i : Instr} {w : WarpState} {m : M} {k : ℕ} {registers : ℕ → Registers} {m' : M} → HaveActed acts has ids i w m k registers m' → registers k ≡ w.registers k
+own_registers {ids = ids} {i = i} {w = w} {k = k} acted =
+    ap (λ (r : ℕ → Registers). r k) (acted.registers_are acted.answers (λ l less. refl)) ∙ not_yet_acted ids i acted.answers w k k (omega arith)
+
+-- the next lane is active, and does its effect
+pub active_acted : {M : Type 0} (acts : M → Access → M → Type 0) (has : Fields) (ids : Ids) (i : Instr) (w : WarpState) (m : M) (k : ℕ) (registers : ℕ → Registers) (m' : M) → HaveActed acts has ids i w m k registers m' →
+    (chosen : ℕ) → chosen ≡ choice_of (effect_in i w (leader w.mask)) → true ≡ has_lane w.mask k → (registers' : ℕ → Registers) (m'' : M) →
+    HasActed acts has ids w.mask k w.pc chosen (effect_at i w.pc (registers k)) (registers k) m' (registers' k) m'' →
+    ((l : ℕ) → (l ≡ k → ⊥) → registers' l ≡ registers l) →
+    HaveActed acts has ids i w m (suc k) registers' m''
+unfolding effect_in
+active_acted {M} acts has ids i w m k registers m' acted chosen chose is_active registers' m'' one others =
+    let own : registers k ≡ w.registers k = own_registers acted in
+    let P : Registers → Type 0 = λ r. HasActed acts has ids w.mask k w.pc chosen (effect_at i w.pc r) r m' (registers' k) m'' in
+    let did : HasActed acts has ids w.mask k w.pc chosen (effect_at i w.pc (w.registers k)) (w.registers k) m' (registers' k) m'' = subst P own one in
+    let no_fault : fault_of has w.pc (choice_of (effect_in i w (leader w.mask))) (effect_in i w k) ≡ None =
+      subst (λ (c : ℕ). fault_of has w.pc c (effect_in i w k) ≡ None) chose did.no_fault in
+    one_more_acted acts has ids i w m k registers m' acted did.answer registers' m''
+      (rw (← is_active) did.made) (rw (← is_active) did.registers_are) others (rw (← is_active) no_fault)
+
+-- the next lane is not active
+pub idle_acted : {M : Type 0} (acts : M → Access → M → Type 0) (has : Fields) (ids : Ids) (i : Instr) (w : WarpState) (m : M) (k : ℕ) (registers : ℕ → Registers) (m' : M) → HaveActed acts has ids i w m k registers m' → false ≡ has_lane w.mask k → HaveActed acts has ids i w m (suc k) registers m'
+idle_acted acts has ids i w m k registers m' acted is_idle =
+    one_more_acted acts has ids i w m k registers m' acted 0 registers m'
+      (rw (← is_idle) refl) (rw (← is_idle) (own_registers acted)) (λ l other. refl) (rw (← is_idle) refl)
+
+-- the next lane is active, and traps
+pub active_trapped : {M : Type 0} (acts : M → Access → M → Type 0) (has : Fields) (ids : Ids) (i : Instr) (w : WarpState) (m : M) (stop : Stop) (registers : ℕ → Registers) (m' : M) → HaveActed acts has ids i w m stop.lane registers m' → stop.lane < 32 →
+    (chosen : ℕ) → chosen ≡ choice_of (effect_in i w (leader w.mask)) → true ≡ has_lane w.mask stop.lane → (registers' : ℕ → Registers) (m'' : M) →
+    HasTrapped has w.pc chosen (effect_at i w.pc (registers stop.lane)) stop.fault (registers stop.lane) m' (registers' stop.lane) m'' →
+    ((l : ℕ) → (l ≡ stop.lane → ⊥) → registers' l ≡ registers l) →
+    HaveStopped acts has ids i w m stop registers' m''
+unfolding effect_in
+active_trapped {M} acts has ids i w m stop registers m' acted below chosen chose is_active registers' m'' one others =
+    let own : registers stop.lane ≡ w.registers stop.lane = own_registers acted in
+    let fault_is : fault_of has w.pc chosen (effect_at i w.pc (w.registers stop.lane)) ≡ Some stop.fault =
+      subst (λ (r : Registers). fault_of has w.pc chosen (effect_at i w.pc r) ≡ Some stop.fault) own one.fault_is in
+    let fault_is' : fault_of has w.pc (choice_of (effect_in i w (leader w.mask))) (effect_in i w stop.lane) ≡ Some stop.fault =
+      subst (λ (c : ℕ). fault_of has w.pc c (effect_in i w stop.lane) ≡ Some stop.fault) chose fault_is in
+    let same : registers ≡ registers' = fun_ext (λ l.
+      elim (cases_eq l stop.lane) [
+        | inl equal ↦ subst (λ (n : ℕ). registers n ≡ registers' n) (sym equal) (sym one.same_registers)
+        | inr other ↦ sym (others l other)
+      ]) in
+    let kept : HaveActed acts has ids i w m stop.lane registers' m' =
+      subst (λ (r : ℕ → Registers). HaveActed acts has ids i w m stop.lane r m') same acted in
+    record {
+      below = subst (λ (n : M). HaveActed acts has ids i w m stop.lane registers' n) (sym one.same_memory) kept;
+      is_lane = below;
+      fault_is = rw (← is_active) fault_is';
     }

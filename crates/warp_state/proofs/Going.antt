@@ -1,5 +1,5 @@
 -- What the loop over the lanes keeps.
-use Rattle.std.proofs.Common.{◌≡◌, ℕ, List, length}
+use Rattle.std.proofs.Common.{◌≡◌, ℕ, List}
 use Rattle.vx_isa.specs.Warps.{WarpState}
 use Rattle.vx_isa.specs.WarpSteps.{Access, Fields}
 use Rattle.vx_isa.specs.declared.instr.Instr.{Instr}
@@ -10,6 +10,5 @@ use Rattle.warp_state.specs.declared.lane.Lane.{Lane}
 
 pub record IsGoing {M : Type 0} (acts : M → Access → M → Type 0) (has : M → Fields) (is_sound : M → Type 0) (ids : Ids) (i : Instr) (w : WarpState) (m : M) (below : ℕ) (lanes : List Lane) (m' : M) : Type 0 where
   pub acted : HaveActed acts (has m) ids i w m below (registers_in lanes) m'
-  pub thirty_two : length lanes ≡ 32
   pub same_fields : has m' ≡ has m
   pub sound : is_sound m'

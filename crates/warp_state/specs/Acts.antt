@@ -4,11 +4,12 @@ use Rattle.vx_base.specs.declared.types.Size.{Size}
 use Rattle.vx_isa.specs.Effects.{effect_of}
 use Rattle.vx_isa.specs.Operands.{rs1_of, rs2_of}
 use Rattle.vx_isa.specs.Warps.{leader, value_in, Registers, WarpState, with_register, loaded}
-use Rattle.vx_isa.specs.WarpSteps.{choice_of, effect_in, Access, Reads, Writes, LaneAccess, field_fault, Fields, Makes, fault_of, registers_after, access_of, lane_fault, acted_below, accesses_below}
+use Rattle.vx_isa.specs.WarpSteps.{Stepped, choice_of, effect_in, Access, Reads, Writes, LaneAccess, field_fault, Fields, Makes, fault_of, registers_after, access_of, lane_fault, acted_below, accesses_below}
 use Rattle.vx_isa.specs.declared.instr.Instr.{Instr}
 use Rattle.vx_isa.specs.declared.instr.LaneEffect.{LaneEffect}
 use Rattle.vx_isa.specs.declared.warps.Ids.{Ids}
 use Rattle.vx_isa.specs.declared.warps.MachineTrap.{MachineTrap}
+use Rattle.vx_isa.specs.declared.warps.Step.{Step}
 use Rattle.warp_state.specs.declared.lane.Shared.{Shared}
 use Rattle.warp_state.specs.declared.lanes.Stop.{Stop}
 
@@ -72,3 +73,9 @@ warp_of shared registers = record { pc = shared.pc; mask = shared.mask; register
 -- what is chosen is the choice of the least active lane
 abbrev pub IsChosen : Shared → Instr → (ℕ → Registers) → Type 0
 IsChosen shared i registers = shared.chosen ≡ choice_of (effect_in i (warp_of shared registers) (leader shared.mask))
+
+-- A step without accesses has left the warp so and ended so.
+pub record Leaves (stepped : Stepped) (outcome : Step) (w' : WarpState) : Type 0 where
+  pub no_access : stepped.accesses ≡ []
+  pub warp_is : w' ≡ stepped.warp
+  pub outcome_is : outcome ≡ stepped.outcome

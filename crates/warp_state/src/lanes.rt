@@ -1,4 +1,5 @@
-ghost use Rattle.std.specs.Prelude.{◌≡◌, ◌≢◌, ◌<◌, ℕ, MatchResult};
+ghost use Rattle.std.specs.Prelude.{◌≡◌, ◌≢◌, ◌<◌, ◌&&◌, ℕ, MatchResult, nat_eq, not};
+ghost use Rattle.vx_isa.specs.Warps.{has_lane, lanes_where, value_in};
 ghost use Rattle.warp_state.specs.Acts.{HasActed, HasTrapped, HaveActed, HaveStopped, IsChosen, effect_at, warp_of};
 ghost use Rattle.warp_state.specs.Lanes.{registers_in};
 
@@ -67,4 +68,17 @@ pub fn act_all<M: LaneMemory>(
         }
     }
     Ok(())
+}
+
+/// The lanes of a set in which a register is not 0.
+pub fn nonzero_lanes(lanes: &[Lane; 32], mask: u32, register: u32) -> u32
+    ensures { result ≡ lanes_where (λ lane. has_lane mask lane && not (nat_eq (value_in (registers_in lanes.now lane) register) 0)) }
+{
+    let mut chosen = 0;
+    for number in 0..LANES {
+        if has_lane(mask, number) && lanes[number as usize].value(register) != 0 {
+            chosen |= 1 << number;
+        }
+    }
+    chosen
 }

@@ -1,3 +1,115 @@
+ghost use Rattle.std.specs.Prelude.{◌≡◌, ◌≢◌, ◌≤◌, length};
+ghost use Rattle.vx_isa.specs.Effects.{address_at};
+ghost use Rattle.vx_isa.specs.Warps.{started};
+ghost use Rattle.vx_isa.specs.WarpSteps.{Takes, agree, diverge, go_on, instr_step, join_step, lanes_step, leader_value, nonzero_lanes, split_step, warp_step, whole_trap, with_mask};
+ghost use Rattle.warp_state.specs.Acts.{Leaves};
+
+use crate::lane::Lane;
+use crate::lanes::nonzero_lanes;
+use crate::masks::leader;
+use ipdom_stack::Ipdom;
+use std::marker::Model;
+use vx_isa::{MachineTrap, Step};
+
+/// A warp of up to 32 lanes. It has ended where its mask is empty.
+#[derive(Debug, Drop)]
 pub struct Warp {
+    // The address of the next instruction.
     pc: u32,
+    // The active lanes.
+    mask: u32,
+    lanes: [Lane; 32],
+    stack: Ipdom,
+}
+
+impl Model for Warp {
+    ghost use Rattle.vx_isa.specs.Warps.{WarpState};
+    ghost use Rattle.warp_state.specs.Lanes.{registers_in};
+
+    ghost Value = { WarpState };
+
+    ghost view = { λ w. record { pc = w.pc; mask = w.mask; registers = registers_in w.lanes; stack = w.stack } };
+}
+
+impl Warp {
+    /// A warp that has ended, with all registers 0.
+    pub fn new() -> Warp
+        ensures { result ≡ started 0 0 }
+    {
+        Warp {
+            pc: 0,
+            mask: 0,
+            lanes: [Lane::new(); 32],
+            stack: Ipdom::new(),
+        }
+    }
+
+    /// Starts the warp at an address with these active lanes: all registers are 0, and the stack is empty.
+    pub fn start(&mut self, pc: u32, mask: u32)
+        ensures { self.new ≡ started pc mask }
+    {
+        self.pc = pc;
+        self.mask = mask;
+        self.lanes = [Lane::new(); 32];
+        self.stack.clear();
+    }
+
+    /// The active lanes.
+    pub fn mask(&self) -> u32
+        ensures { result ≡ self.now.mask }
+    {
+        self.mask
+    }
+
+    /// How many entries the divergence stack has, at most 64.
+    pub fn depth(&self) -> usize
+        ensures value { result ≡ length self.now.stack }
+        ensures most { result ≤ 64 }
+    {
+        self.stack.len()
+    }
+
+    // What a register reads as in the least active lane.
+    fn leader_value(&self, register: u32) -> u32
+        requires { self.now.mask ≢ 0 }
+        ensures { result ≡ leader_value self.now register }
+    {
+        self.lanes[leader(self.mask) as usize].value(register)
+    }
+
+    // The active lanes in which a register is not 0.
+    fn nonzero_lanes(&self, register: u32) -> u32
+        ensures { result ≡ nonzero_lanes self.now register }
+    {
+        nonzero_lanes(&self.lanes, self.mask, register)
+    }
+
+    // The warp traps as a whole.
+    fn trap(&self, fault: MachineTrap) -> Step
+        requires { self.now.mask ≢ 0 }
+        ensures { Leaves (whole_trap fault self.now) result self.now }
+    {
+        Step::Trap {
+            fault,
+            lane: leader(self.mask),
+            pc: self.pc,
+        }
+    }
+
+    // The warp goes on behind the instruction.
+    fn go_on(&mut self, outcome: Step) -> Step
+        ensures { Leaves (go_on outcome (address_at self.old.pc 4) self.old.mask self.old.stack self.old) result self.new }
+    {
+        self.pc = self.pc.wrapping_add(4);
+        outcome
+    }
+
+    // The warp goes on behind the instruction with these lanes. Where there is none, it has ended.
+    fn set_mask(&mut self, mask: u32) -> Step
+        ensures { Leaves (with_mask mask self.old) result self.new }
+    {
+        self.pc = self.pc.wrapping_add(4);
+        self.mask = mask;
+        if mask == 0 { Step::Ended } else { Step::Next }
+    }
 }
