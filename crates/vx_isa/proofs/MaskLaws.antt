@@ -1,7 +1,10 @@
 -- Laws of sets of lanes and of the least number for which a test holds.
-use Rattle.std.proofs.Common.{◌≡◌, ℕ, zero, suc, ◌+◌, ◌/◌, ◌%◌, ◌^◌, ◌<◌, ◌≤◌, if◌then◌else◌, Bool, true, false, nat_eq, ap, sym, ◌∙◌, subst, arith, refl}
+use Rattle.std.proofs.Common.{◌≡◌, ℕ, zero, suc, ◌+◌, ◌-◌, ◌*◌, inl, inr, add-one, mod-eq_of_lt, ◌%◌, ◌^◌, ◌<◌, ◌≤◌, if◌then◌else◌, Bool, true, false, nat_eq, ap, sym, ◌∙◌, subst, arith, refl}
 use Rattle.std.specs.Int.{bit_at, w32, trailing_zeros}
-use Rattle.std.proofs.lemmas.Nat.Bits.{bit_at-lt, bit_at_above, bit_at-trailing_zeros}
+use Rattle.std.proofs.lemmas.Nat.Bits.{bit_at_above, bit_at_cat_low, bit_at_cat_high, bit_at-trailing_zeros}
+use Rattle.std.proofs.lemmas.Bool.{cases_lt}
+use Rattle.std.proofs.lemmas.Nat.{or_comm, or_shifted, pow_below}
+use Rattle.std.specs.Prelude.{bit_or}
 use Rattle.vx_isa.specs.Warps.{has_lane, least_below, lanes_below, leader}
 
 -- the least number below a bound for which a test holds
@@ -52,3 +55,53 @@ lanes_below-lt (suc n) test =
       | true ↦ let below = lanes_below-lt n test in let power : 2 ^ suc n ≡ 2 ^ n + 2 ^ n = omega arith in omega arith
       | false ↦ let below = lanes_below-lt n test in let power : 2 ^ suc n ≡ 2 ^ n + 2 ^ n = omega arith in omega arith
     ]
+
+-- a set of lanes below a number, and that lane
+pub lanes_below-or : (n : ℕ) (test : ℕ → Bool) → n < 32 → bit_or (lanes_below n test) (1 * 2 ^ n % 2 ^ 32) ≡ lanes_below n test + 2 ^ n
+lanes_below-or n test below =
+    let power : 1 * 2 ^ n ≡ 2 ^ n = omega arith in
+    let fits : 1 * 2 ^ n % 2 ^ 32 ≡ 1 * 2 ^ n = mod-eq_of_lt (subst (λ (p : ℕ). p < 2 ^ 32) (sym power) (pow_below n 32 below)) in
+    let disjoint : bit_or (1 * 2 ^ n) (lanes_below n test) ≡ 1 * 2 ^ n + lanes_below n test = or_shifted 1 n (lanes_below n test) (lanes_below-lt n test) in
+    ap (λ (p : ℕ). bit_or (lanes_below n test) p) fits ∙ or_comm (lanes_below n test) (1 * 2 ^ n) ∙ disjoint ∙ omega arith
+
+-- one lane more
+pub lanes_below-more : (n : ℕ) (test : ℕ → Bool) → n < 32 → true ≡ test n → bit_or (lanes_below n test) (1 * 2 ^ n % 2 ^ 32) ≡ lanes_below (n + 1) test
+unfolding lanes_below
+lanes_below-more n test below holds = rw (add-one, ← holds) (lanes_below-or n test below)
+
+pub lanes_below-same : (n : ℕ) (test : ℕ → Bool) → false ≡ test n → lanes_below n test ≡ lanes_below (n + 1) test
+unfolding lanes_below
+lanes_below-same n test fails = rw (add-one, ← fails) (omega arith)
+
+pub lanes_below-zero : (test : ℕ → Bool) → 0 ≡ lanes_below 0 test
+unfolding lanes_below
+lanes_below-zero test = refl
+
+-- a lane is in the set of those for which a test holds where it holds for it
+pub bit_at-lanes_below : (n : ℕ) (test : ℕ → Bool) (k : ℕ) → k < n → bit_at (lanes_below n test) k ≡ (if test k then 1 else 0)
+unfolding lanes_below
+bit_at-lanes_below zero test k below = let none : ⊥ = omega arith in absurd none
+bit_at-lanes_below (suc n) test k below =
+    elim (cases_lt k n) [
+      | inl less ↦ low_bit (test n) n (lanes_below n test) k less ∙ bit_at-lanes_below n test k less
+      | inr not_less ↦
+          let last : k ≡ n = omega arith in
+          subst (λ (j : ℕ). bit_at (lanes_below n test + (if test n then 2 ^ n else 0)) j ≡ (if test j then 1 else 0)) (sym last)
+            (high_bit (test n) n (lanes_below n test) (lanes_below-lt n test))
+    ] where
+  low_bit : (b : Bool) (n x k : ℕ) → k < n → bit_at (x + (if b then 2 ^ n else 0)) k ≡ bit_at x k
+  low_bit true n x k less = let form : x + 2 ^ n ≡ 1 * 2 ^ n + x = omega arith in ap (λ (y : ℕ). bit_at y k) form ∙ bit_at_cat_low 1 n x k less
+  low_bit false n x k less = let form : x + 0 ≡ x = omega arith in ap (λ (y : ℕ). bit_at y k) form
+
+  high_bit : (b : Bool) (n x : ℕ) → x < 2 ^ n → bit_at (x + (if b then 2 ^ n else 0)) n ≡ (if b then 1 else 0)
+  high_bit true n x below =
+      let form : x + 2 ^ n ≡ 1 * 2 ^ n + x = omega arith in
+      let place : n - n ≡ 0 = omega arith in
+      ap (λ (y : ℕ). bit_at y n) form ∙ bit_at_cat_high 1 n x n below (omega arith) ∙ ap (bit_at 1) place
+  high_bit false n x below = let form : x + 0 ≡ x = omega arith in ap (λ (y : ℕ). bit_at y n) form ∙ bit_at_above x n n below (omega arith)
+
+pub has_lane-lanes_below : (n : ℕ) (test : ℕ → Bool) (k : ℕ) → k < n → has_lane (lanes_below n test) k ≡ test k
+has_lane-lanes_below n test k below = ap (λ (b : ℕ). nat_eq b 1) (bit_at-lanes_below n test k below) ∙ either (test k) where
+  either : (b : Bool) → nat_eq (if b then 1 else 0) 1 ≡ b
+  either true = refl
+  either false = refl

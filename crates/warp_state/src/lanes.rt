@@ -70,15 +70,30 @@ pub fn act_all<M: LaneMemory>(
     Ok(())
 }
 
+/// Whether a lane is in a set and its register is not 0.
+fn is_nonzero(lanes: &[Lane; 32], mask: u32, number: u32, register: u32) -> bool
+    requires { number < 32 }
+    ensures { result ≡ (has_lane mask number && not (nat_eq (value_in (registers_in lanes.now number) register) 0)) }
+{
+    has_lane(mask, number) && lanes[number as usize].value(register) != 0
+}
+
 /// The lanes of a set in which a register is not 0.
 pub fn nonzero_lanes(lanes: &[Lane; 32], mask: u32, register: u32) -> u32
     ensures { result ≡ lanes_where (λ lane. has_lane mask lane && not (nat_eq (value_in (registers_in lanes.now lane) register) 0)) }
 {
     let mut chosen = 0;
     for number in 0..LANES {
-        if has_lane(mask, number) && lanes[number as usize].value(register) != 0 {
+        if is_nonzero(lanes, mask, number, register) {
             chosen |= 1 << number;
         }
     }
     chosen
+}
+
+/// Lanes whose registers are all 0.
+pub fn idle_lanes() -> [Lane; 32]
+    ensures { registers_in result ≡ (λ lane r. 0) }
+{
+    [Lane::new(); 32]
 }

@@ -3,9 +3,10 @@ ghost use Rattle.vx_isa.specs.Effects.{address_at};
 ghost use Rattle.vx_isa.specs.Warps.{started};
 ghost use Rattle.vx_isa.specs.WarpSteps.{Takes, agree, diverge, go_on, instr_step, join_step, lanes_step, leader_value, nonzero_lanes, split_step, warp_step, whole_trap, with_mask};
 ghost use Rattle.warp_state.specs.Acts.{Leaves};
+ghost use Rattle.warp_state.specs.Lanes.{state_of};
 
 use crate::lane::Lane;
-use crate::lanes::nonzero_lanes;
+use crate::lanes::{idle_lanes, nonzero_lanes};
 use crate::masks::leader;
 use ipdom_stack::Ipdom;
 use std::marker::Model;
@@ -23,34 +24,33 @@ pub struct Warp {
 }
 
 impl Model for Warp {
-    ghost use Rattle.vx_isa.specs.Warps.{WarpState};
-    ghost use Rattle.warp_state.specs.Lanes.{registers_in};
+    ghost use Rattle.warp_state.specs.Lanes.{KeptWarp};
 
-    ghost Value = { WarpState };
+    ghost Value = { KeptWarp };
 
-    ghost view = { λ w. record { pc = w.pc; mask = w.mask; registers = registers_in w.lanes; stack = w.stack } };
+    ghost view = { λ w. record { pc = w.pc; mask = w.mask; lanes = w.lanes; stack = w.stack } };
 }
 
 impl Warp {
     /// A warp that has ended, with all registers 0.
     pub fn new() -> Warp
-        ensures { result ≡ started 0 0 }
+        ensures { state_of result ≡ started 0 0 }
     {
         Warp {
             pc: 0,
             mask: 0,
-            lanes: [Lane::new(); 32],
+            lanes: idle_lanes(),
             stack: Ipdom::new(),
         }
     }
 
     /// Starts the warp at an address with these active lanes: all registers are 0, and the stack is empty.
     pub fn start(&mut self, pc: u32, mask: u32)
-        ensures { self.new ≡ started pc mask }
+        ensures { state_of self.new ≡ started pc mask }
     {
         self.pc = pc;
         self.mask = mask;
-        self.lanes = [Lane::new(); 32];
+        self.lanes = idle_lanes();
         self.stack.clear();
     }
 
@@ -72,14 +72,14 @@ impl Warp {
     // What a register reads as in the least active lane.
     fn leader_value(&self, register: u32) -> u32
         requires { self.now.mask ≢ 0 }
-        ensures { result ≡ leader_value self.now register }
+        ensures { result ≡ leader_value (state_of self.now) register }
     {
         self.lanes[leader(self.mask) as usize].value(register)
     }
 
     // The active lanes in which a register is not 0.
     fn nonzero_lanes(&self, register: u32) -> u32
-        ensures { result ≡ nonzero_lanes self.now register }
+        ensures { result ≡ nonzero_lanes (state_of self.now) register }
     {
         nonzero_lanes(&self.lanes, self.mask, register)
     }
@@ -87,7 +87,7 @@ impl Warp {
     // The warp traps as a whole.
     fn trap(&self, fault: MachineTrap) -> Step
         requires { self.now.mask ≢ 0 }
-        ensures { Leaves (whole_trap fault self.now) result self.now }
+        ensures { Leaves (whole_trap fault (state_of self.now)) result (state_of self.now) }
     {
         Step::Trap {
             fault,
@@ -98,7 +98,7 @@ impl Warp {
 
     // The warp goes on behind the instruction.
     fn go_on(&mut self, outcome: Step) -> Step
-        ensures { Leaves (go_on outcome (address_at self.old.pc 4) self.old.mask self.old.stack self.old) result self.new }
+        ensures { Leaves (go_on outcome (address_at self.old.pc 4) self.old.mask self.old.stack (state_of self.old)) result (state_of self.new) }
     {
         self.pc = self.pc.wrapping_add(4);
         outcome
@@ -106,7 +106,7 @@ impl Warp {
 
     // The warp goes on behind the instruction with these lanes. Where there is none, it has ended.
     fn set_mask(&mut self, mask: u32) -> Step
-        ensures { Leaves (with_mask mask self.old) result self.new }
+        ensures { Leaves (with_mask mask (state_of self.old)) result (state_of self.new) }
     {
         self.pc = self.pc.wrapping_add(4);
         self.mask = mask;
