@@ -1,2 +1,3 @@
 pub mod ActLaws
 pub mod Going
+pub mod IdleLanes

@@ -70,12 +70,20 @@ pub fn act_all<M: LaneMemory>(
     Ok(())
 }
 
+/// What a register of a lane reads as.
+pub fn value_at(lanes: &[Lane; 32], number: u32, register: u32) -> u32
+    requires { number < 32 }
+    ensures { result ≡ value_in (registers_in lanes.now number) register }
+{
+    lanes[number as usize].value(register)
+}
+
 /// Whether a lane is in a set and its register is not 0.
 fn is_nonzero(lanes: &[Lane; 32], mask: u32, number: u32, register: u32) -> bool
     requires { number < 32 }
     ensures { result ≡ (has_lane mask number && not (nat_eq (value_in (registers_in lanes.now number) register) 0)) }
 {
-    has_lane(mask, number) && lanes[number as usize].value(register) != 0
+    has_lane(mask, number) && value_at(lanes, number, register) != 0
 }
 
 /// The lanes of a set in which a register is not 0.

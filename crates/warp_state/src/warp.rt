@@ -6,7 +6,7 @@ ghost use Rattle.warp_state.specs.Acts.{Leaves};
 ghost use Rattle.warp_state.specs.Lanes.{state_of};
 
 use crate::lane::Lane;
-use crate::lanes::{idle_lanes, nonzero_lanes};
+use crate::lanes::{idle_lanes, nonzero_lanes, value_at};
 use crate::masks::leader;
 use ipdom_stack::Ipdom;
 use std::marker::Model;
@@ -74,7 +74,7 @@ impl Warp {
         requires { self.now.mask ≢ 0 }
         ensures { result ≡ leader_value (state_of self.now) register }
     {
-        self.lanes[leader(self.mask) as usize].value(register)
+        value_at(&self.lanes, leader(self.mask), register)
     }
 
     // The active lanes in which a register is not 0.
