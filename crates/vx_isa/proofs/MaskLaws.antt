@@ -1,10 +1,11 @@
 -- Laws of sets of lanes and of the least number for which a test holds.
 use Rattle.std.proofs.Common.{◌≡◌, ℕ, zero, suc, ◌+◌, ◌-◌, ◌*◌, inl, inr, add-one, mod-eq_of_lt, ◌%◌, ◌^◌, ◌<◌, ◌≤◌, if◌then◌else◌, Bool, true, false, nat_eq, ap, sym, ◌∙◌, subst, arith, refl}
-use Rattle.std.specs.Int.{bit_at, w32, trailing_zeros}
-use Rattle.std.proofs.lemmas.Nat.Bits.{bit_at_above, bit_at_cat_low, bit_at_cat_high, bit_at-trailing_zeros}
+use Rattle.std.specs.Int.{bit_at, bit_not, w32, trailing_zeros}
+use Rattle.std.proofs.lemmas.Nat.Bits.{bit_at-lt, bit_at_and, bit_at_not, same_from_bits_below, bit_at_above, bit_at_cat_low, bit_at_cat_high, bit_at-trailing_zeros}
 use Rattle.std.proofs.lemmas.Bool.{cases_lt}
-use Rattle.std.proofs.lemmas.Nat.{or_comm, or_shifted, pow_below}
-use Rattle.std.specs.Prelude.{bit_or}
+use Rattle.std.proofs.lemmas.Nat.{and_le_l, or_comm, or_shifted, pow_below}
+use Rattle.std.specs.Prelude.{bit_and, bit_or, min, not, ◌&&◌}
+use Rattle.std.proofs.Common.{lt_of_le_of_lt}
 use Rattle.vx_isa.specs.Warps.{has_lane, least_below, lanes_below, leader}
 
 -- the least number below a bound for which a test holds
@@ -105,3 +106,23 @@ has_lane-lanes_below n test k below = ap (λ (b : ℕ). nat_eq b 1) (bit_at-lane
   either : (b : Bool) → nat_eq (if b then 1 else 0) 1 ≡ b
   either true = refl
   either false = refl
+
+-- one bit of a mask without the lanes for which a test holds
+rest_bit : (m : ℕ) (test rest : Bool) → m < 2 → rest ≡ not test → min m (1 - (if nat_eq m 1 && test then 1 else 0)) ≡ (if nat_eq m 1 && rest then 1 else 0)
+rest_bit zero test rest bit same = refl
+rest_bit (suc zero) true rest bit same = rw same refl
+rest_bit (suc zero) false rest bit same = rw same refl
+rest_bit (suc (suc m)) test rest bit same = let none : ⊥ = omega arith in absurd none
+
+-- the lanes of a set for which a test does not hold
+pub lanes_below-rest : (mask : ℕ) (test rest : ℕ → Bool) → mask < 2 ^ 32 → ((lane : ℕ) → rest lane ≡ not (test lane)) →
+    bit_and mask (bit_not w32 (lanes_below 32 (λ lane. has_lane mask lane && test lane))) ≡ lanes_below 32 (λ lane. has_lane mask lane && rest lane)
+lanes_below-rest mask test rest below others =
+    let on = lanes_below 32 (λ lane. has_lane mask lane && test lane) in
+    let off = lanes_below 32 (λ lane. has_lane mask lane && rest lane) in
+    same_from_bits_below 32 (bit_and mask (bit_not w32 on)) off (lt_of_le_of_lt (and_le_l mask (bit_not w32 on)) below) (lanes_below-lt 32 (λ lane. has_lane mask lane && rest lane))
+      (λ i within.
+        bit_at_and mask (bit_not w32 on) i
+        ∙ ap (λ (b : ℕ). min (bit_at mask i) b) (bit_at_not w32 on i (lanes_below-lt 32 (λ lane. has_lane mask lane && test lane)) within ∙ ap (λ (b : ℕ). 1 - b) (bit_at-lanes_below 32 (λ lane. has_lane mask lane && test lane) i within))
+        ∙ rest_bit (bit_at mask i) (test i) (rest i) (bit_at-lt mask i) (others i)
+        ∙ sym (bit_at-lanes_below 32 (λ lane. has_lane mask lane && rest lane) i within))

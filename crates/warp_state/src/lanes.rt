@@ -6,7 +6,7 @@ ghost use Rattle.warp_state.specs.Lanes.{registers_in};
 use crate::lane::{Lane, Shared, act};
 use crate::masks::has_lane;
 use crate::memory::LaneMemory;
-use vx_isa::{Instr, MachineTrap, effect};
+use vx_isa::{Instr, LaneEffect, MachineTrap, effect};
 
 /// The most lanes that a warp can have.
 pub const LANES: u32 = 32;
@@ -18,6 +18,15 @@ pub struct Stop {
     pub fault: MachineTrap,
     /// The lane.
     pub lane: u32,
+}
+
+/// What an instruction at `pc` is to a lane.
+pub fn effect_at(lanes: &[Lane; 32], number: u32, i: Instr, pc: u32) -> LaneEffect
+    requires { number < 32 }
+    ensures { result ≡ effect_at i pc (registers_in lanes.now number) }
+{
+    let lane = &lanes[number as usize];
+    effect(i, pc, lane.value(i.rs1()), lane.value(i.rs2()))
 }
 
 /// An active lane does an instruction. A lane that traps leaves all as it was.

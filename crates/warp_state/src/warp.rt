@@ -1,16 +1,17 @@
 ghost use Rattle.std.specs.Prelude.{◌≡◌, ◌≢◌, ◌≤◌, length};
 ghost use Rattle.vx_isa.specs.Effects.{address_at};
-ghost use Rattle.vx_isa.specs.Warps.{started};
-ghost use Rattle.vx_isa.specs.WarpSteps.{Takes, agree, diverge, go_on, instr_step, join_step, lanes_step, leader_value, nonzero_lanes, split_step, warp_step, whole_trap, with_mask};
+ghost use Rattle.vx_isa.specs.Warps.{cut, started};
+ghost use Rattle.vx_isa.specs.WarpSteps.{Takes, agree, diverge, go_on, instr_step, join_step, lanes_step, leader_value, nonzero_lanes, pred_mask, split_step, warp_step, whole_trap, with_mask, zero_lanes};
 ghost use Rattle.warp_state.specs.Acts.{Leaves};
 ghost use Rattle.warp_state.specs.Lanes.{state_of};
 
-use crate::lane::Lane;
-use crate::lanes::{idle_lanes, nonzero_lanes, value_at};
-use crate::masks::leader;
-use ipdom_stack::Ipdom;
+use crate::lane::{Lane, Shared, choice_of, leads_to};
+use crate::lanes::{act_all, effect_at, idle_lanes, nonzero_lanes, value_at};
+use crate::masks::{cut, leader};
+use crate::memory::LaneMemory;
+use ipdom_stack::{DEPTH, Full, Held, Ipdom};
 use std::marker::Model;
-use vx_isa::{MachineTrap, Step};
+use vx_isa::{Ids, Instr, MachineTrap, Step};
 
 /// A warp of up to 32 lanes. It has ended where its mask is empty.
 #[derive(Debug, Drop)]
@@ -84,6 +85,13 @@ impl Warp {
         nonzero_lanes(&self.lanes, self.mask, register)
     }
 
+    // The active lanes in which a register is 0.
+    fn zero_lanes(&self, register: u32) -> u32
+        ensures { result ≡ zero_lanes (state_of self.now) register }
+    {
+        self.mask & !nonzero_lanes(&self.lanes, self.mask, register)
+    }
+
     // The warp traps as a whole.
     fn trap(&self, fault: MachineTrap) -> Step
         requires { self.now.mask ≢ 0 }
@@ -111,5 +119,104 @@ impl Warp {
         self.pc = self.pc.wrapping_add(4);
         self.mask = mask;
         if mask == 0 { Step::Ended } else { Step::Next }
+    }
+
+    // A `split` with lanes for both sides: the first go on, and the others wait.
+    fn diverge(&mut self, on: u32, off: u32) -> Step
+        requires { self.old.mask ≢ 0 }
+        ensures { Leaves (diverge on off (state_of self.old)) result (state_of self.new) }
+    {
+        if self.stack.len() + 2 > DEPTH {
+            return self.trap(MachineTrap::StackFull);
+        }
+        let pc = self.pc.wrapping_add(4);
+        let _ = self.stack.push(Held::Restore { mask: self.mask });
+        let _ = self.stack.push(Held::Else { mask: off, pc });
+        self.mask = on;
+        self.pc = pc;
+        Step::Diverged
+    }
+
+    // A `split` with lanes for one side alone.
+    fn agree(&mut self) -> Step
+        requires { self.old.mask ≢ 0 }
+        ensures { Leaves (agree (state_of self.old)) result (state_of self.new) }
+    {
+        match self.stack.push(Held::Restore { mask: self.mask }) {
+            Ok(()) => self.go_on(Step::Agreed),
+            Err(Full) => self.trap(MachineTrap::StackFull),
+        }
+    }
+
+    // A `split`, by the lanes for its two sides.
+    fn split(&mut self, on: u32, off: u32) -> Step
+        requires { self.old.mask ≢ 0 }
+        ensures { Leaves (split_step on off (state_of self.old)) result (state_of self.new) }
+    {
+        if on != 0 && off != 0 {
+            self.diverge(on, off)
+        } else {
+            self.agree()
+        }
+    }
+
+    // A `join`.
+    fn join(&mut self) -> Step
+        requires { self.old.mask ≢ 0 }
+        ensures { Leaves (join_step self.old.stack (state_of self.old)) result (state_of self.new) }
+    {
+        match self.stack.pop() {
+            Some(Held::Restore { mask }) => {
+                self.mask = mask;
+                self.go_on(Step::Next)
+            }
+            Some(Held::Else { mask, pc }) => {
+                self.mask = mask;
+                self.pc = pc;
+                Step::Next
+            }
+            None => self.trap(MachineTrap::JoinEmpty),
+        }
+    }
+
+    // A `pred`: the active lanes in which the first register is not 0 stay, or else those of the second.
+    fn keep_lanes(&mut self, lanes: u32, rs1: u32, rs2: u32) -> Step
+        requires { self.old.mask ≢ 0 }
+        ensures { let w = state_of self.old in
+            Leaves (with_mask (pred_mask (nonzero_lanes w rs1) (cut lanes (leader_value w rs2))) w) result (state_of self.new) }
+    {
+        let stay = self.nonzero_lanes(rs1);
+        if stay != 0 {
+            return self.set_mask(stay);
+        }
+        self.set_mask(cut(lanes, self.leader_value(rs2)))
+    }
+
+    // An instruction that each active lane does.
+    fn do_lanes<M: LaneMemory>(&mut self, i: Instr, ids: Ids, memory: &mut M) -> Step
+        requires active { self.old.mask ≢ 0 }
+        requires sound { M.is_sound memory.old }
+        ensures step { Takes M.acts (λ answers. lanes_step (M.has memory.old) ids i answers (state_of self.old)) memory.old result (state_of self.new) memory.new }
+        ensures same_fields { M.has memory.new ≡ M.has memory.old }
+        ensures sound { M.is_sound memory.new }
+    {
+        let did = effect_at(&self.lanes, leader(self.mask), i, self.pc);
+        let shared = Shared {
+            ids,
+            mask: self.mask,
+            pc: self.pc,
+            chosen: choice_of(did),
+        };
+        match act_all(&mut self.lanes, i, &shared, memory) {
+            Ok(()) => {
+                self.pc = leads_to(self.pc, did);
+                Step::Next
+            }
+            Err(stop) => Step::Trap {
+                fault: stop.fault,
+                lane: stop.lane,
+                pc: self.pc,
+            },
+        }
     }
 }
