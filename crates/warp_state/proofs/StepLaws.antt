@@ -9,7 +9,7 @@ use Rattle.vx_isa.specs.declared.warps.MachineTrap.{MachineTrap}
 use Rattle.vx_isa.specs.declared.warps.Step.{Step}
 use Rattle.vx_isa.specs.declared.warps.Step.TheVariants as step
 use Rattle.vx_isa.proofs.MaskLaws.{least_below-found, least_below-none, has_lane-above}
-use Rattle.warp_state.specs.Acts.{HaveActed, HaveStopped}
+use Rattle.warp_state.specs.Acts.{HaveActed, HaveStopped, Leaves}
 use Rattle.warp_state.specs.declared.lanes.Stop.{Stop}
 
 -- the warp with another stack
@@ -84,4 +84,15 @@ stopped_takes acts has ids i w m stop registers m' stopped =
       made = subst (λ (s : Stepped). Makes acts m s.accesses m') (sym eq) (acted.made a (λ l less. refl));
       warp_is = has_acted ∙ ap (λ (s : Stepped). s.warp) (sym eq);
       outcome_is = ap (λ (s : Stepped). s.outcome) (sym eq);
+    }
+
+-- a step without accesses, whatever is answered
+pub leaves_takes : {M : Type 0} (acts : M → Access → M → Type 0) (stepped : (ℕ → ℕ) → Stepped) (left : Stepped) (m : M) (outcome : Step) (w' : WarpState) → ((a : ℕ → ℕ) → left ≡ stepped a) → Leaves left outcome w' → Takes acts stepped m outcome w' m
+leaves_takes acts stepped left m outcome w' same leaves =
+    let answers : ℕ → ℕ = λ lane. 0 in
+    record {
+      answers = answers;
+      made = subst (λ (s : Stepped). Makes acts m s.accesses m) (same answers) (subst (λ (xs : List LaneAccess). Makes acts m xs m) (sym leaves.no_access) refl);
+      warp_is = leaves.warp_is ∙ ap (λ (s : Stepped). s.warp) (same answers);
+      outcome_is = leaves.outcome_is ∙ ap (λ (s : Stepped). s.outcome) (same answers);
     }

@@ -5,6 +5,7 @@ ghost use Rattle.vx_isa.specs.WarpSteps.{Takes, agree, diverge, go_on, instr_ste
 ghost use Rattle.warp_state.specs.Acts.{Leaves};
 ghost use Rattle.warp_state.specs.Lanes.{state_of};
 
+use crate::fetch::fetch;
 use crate::lane::{Lane, Shared, choice_of, leads_to};
 use crate::lanes::{act_all, effect_at, idle_lanes, nonzero_lanes, value_at};
 use crate::masks::{cut, leader};
@@ -217,6 +218,50 @@ impl Warp {
                 lane: stop.lane,
                 pc: self.pc,
             },
+        }
+    }
+
+    // An instruction.
+    fn do_instr<M: LaneMemory>(&mut self, i: Instr, ids: Ids, memory: &mut M) -> Step
+        requires active { self.old.mask ≢ 0 }
+        requires sound { M.is_sound memory.old }
+        ensures step { Takes M.acts (λ answers. instr_step (M.has memory.old) ids answers (state_of self.old) i) memory.old result (state_of self.new) memory.new }
+        ensures same_fields { M.has memory.new ≡ M.has memory.old }
+        ensures sound { M.is_sound memory.new }
+    {
+        match i {
+            Instr::Tmc { rs1 } => self.set_mask(cut(ids.lanes, self.leader_value(rs1))),
+            Instr::Wspawn { rs1, rs2 } => {
+                let count = self.leader_value(rs1);
+                let pc = self.leader_value(rs2);
+                self.go_on(Step::Spawn { count, pc })
+            }
+            Instr::Split { rs1 } => self.split(self.nonzero_lanes(rs1), self.zero_lanes(rs1)),
+            Instr::Join => self.join(),
+            Instr::Bar { rs1, rs2 } => {
+                let bar = self.leader_value(rs1) % 16;
+                let count = self.leader_value(rs2);
+                self.go_on(Step::Wait { bar, count })
+            }
+            Instr::Pred { rs1, rs2 } => self.keep_lanes(ids.lanes, rs1, rs2),
+            _ => self.do_lanes(i, ids, memory),
+        }
+    }
+
+    /// One instruction, of the code whose first word is at the address 0x80000000. The warp must not have ended.
+    ///
+    /// A trap leaves the warp where it is, with its mask and its stack; the active lanes below the one that it names have
+    /// acted.
+    pub fn step<M: LaneMemory>(&mut self, code: &[u32], ids: Ids, memory: &mut M) -> Step
+        requires active { self.old.mask ≢ 0 }
+        requires sound { M.is_sound memory.old }
+        ensures step { Takes M.acts (λ answers. warp_step (M.has memory.old) ids code.now answers (state_of self.old)) memory.old result (state_of self.new) memory.new }
+        ensures same_fields { M.has memory.new ≡ M.has memory.old }
+        ensures sound { M.is_sound memory.new }
+    {
+        match fetch(code, self.pc) {
+            Ok(i) => self.do_instr(i, ids, memory),
+            Err(fault) => self.trap(fault),
         }
     }
 }
