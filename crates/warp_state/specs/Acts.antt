@@ -66,13 +66,15 @@ pub record HaveStopped {M : Type 0} (acts : M → Access → M → Type 0) (has 
   pub is_lane : stop.lane < 32
   pub fault_is : lane_fault has i w stop.lane ≡ Some stop.fault
 
--- the warp whose lanes share this and have these registers; its stack does not matter to them
-abbrev pub warp_of : Shared → (ℕ → Registers) → WarpState
-warp_of shared registers = record { pc = shared.pc; mask = shared.mask; registers = registers; stack = [] }
+-- a warp with these registers; its stack does not matter to the lanes
+abbrev pub warp_of : ℕ → ℕ → (ℕ → Registers) → WarpState
+warp_of pc mask registers = record { pc = pc; mask = mask; registers = registers; stack = [] }
 
--- what is chosen is the choice of the least active lane
-abbrev pub IsChosen : Shared → Instr → (ℕ → Registers) → Type 0
-IsChosen shared i registers = shared.chosen ≡ choice_of (effect_in i (warp_of shared registers) (leader shared.mask))
+-- what the lanes share for an instruction: the registers that it reads, and the choice of the least active lane
+pub record IsSharedFor (shared : Shared) (i : Instr) (registers : ℕ → Registers) : Type 0 where
+  pub rs1_is : shared.rs1 ≡ rs1_of i
+  pub rs2_is : shared.rs2 ≡ rs2_of i
+  pub chosen_is : shared.chosen ≡ choice_of (effect_in i (warp_of shared.pc shared.mask registers) (leader shared.mask))
 
 -- A step without accesses has left the warp so and ended so.
 pub record Leaves (stepped : Stepped) (outcome : Step) (w' : WarpState) : Type 0 where

@@ -24,6 +24,10 @@ pub struct Shared {
     pub mask: u32,
     /// The address of the instruction.
     pub pc: u32,
+    /// The register that the instruction reads first.
+    pub rs1: u32,
+    /// The register that the instruction reads second.
+    pub rs2: u32,
     /// What the least active lane chose.
     pub chosen: u32,
 }

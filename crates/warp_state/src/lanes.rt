@@ -1,6 +1,7 @@
 ghost use Rattle.std.specs.Prelude.{◌≡◌, ◌≢◌, ◌<◌, ◌&&◌, ℕ, MatchResult, nat_eq, not};
+ghost use Rattle.vx_isa.specs.Operands.{rs1_of, rs2_of};
 ghost use Rattle.vx_isa.specs.Warps.{has_lane, lanes_where, value_in};
-ghost use Rattle.warp_state.specs.Acts.{HasActed, HasTrapped, HaveActed, HaveStopped, IsChosen, effect_at, warp_of};
+ghost use Rattle.warp_state.specs.Acts.{HasActed, HasTrapped, HaveActed, HaveStopped, IsSharedFor, effect_at, warp_of};
 ghost use Rattle.warp_state.specs.Lanes.{registers_in};
 
 use crate::lane::{Lane, Shared, act};
@@ -39,6 +40,8 @@ fn act_at<M: LaneMemory>(
 ) -> Result<(), MachineTrap>
     requires sound { M.is_sound memory.old }
     requires lane { number < 32 }
+    requires rs1 { shared.now.rs1 ≡ rs1_of i }
+    requires rs2 { shared.now.rs2 ≡ rs2_of i }
     ensures acted { MatchResult result
         (λ _. HasActed M.acts (M.has memory.old) shared.now.ids shared.now.mask number shared.now.pc shared.now.chosen (effect_at i shared.now.pc (registers_in lanes.old number)) (registers_in lanes.old number) memory.old (registers_in lanes.new number) memory.new)
         (λ fault. HasTrapped (M.has memory.old) shared.now.pc shared.now.chosen (effect_at i shared.now.pc (registers_in lanes.old number)) fault (registers_in lanes.old number) memory.old (registers_in lanes.new number) memory.new) }
@@ -47,7 +50,7 @@ fn act_at<M: LaneMemory>(
     ensures sound { M.is_sound memory.new }
 {
     let lane = &mut lanes[number as usize];
-    let did = effect(i, shared.pc, lane.value(i.rs1()), lane.value(i.rs2()));
+    let did = effect(i, shared.pc, lane.value(shared.rs1), lane.value(shared.rs2));
     act(lane, number, shared, did, memory)
 }
 
@@ -59,10 +62,10 @@ pub fn act_all<M: LaneMemory>(
     memory: &mut M,
 ) -> Result<(), Stop>
     requires sound { M.is_sound memory.old }
-    requires chosen { IsChosen shared.now i (registers_in lanes.old) }
+    requires shared { IsSharedFor shared.now i (registers_in lanes.old) }
     ensures acted { MatchResult result
-        (λ _. HaveActed M.acts (M.has memory.old) shared.now.ids i (warp_of shared.now (registers_in lanes.old)) memory.old 32 (registers_in lanes.new) memory.new)
-        (λ stop. HaveStopped M.acts (M.has memory.old) shared.now.ids i (warp_of shared.now (registers_in lanes.old)) memory.old stop (registers_in lanes.new) memory.new) }
+        (λ _. HaveActed M.acts (M.has memory.old) shared.now.ids i (warp_of shared.now.pc shared.now.mask (registers_in lanes.old)) memory.old 32 (registers_in lanes.new) memory.new)
+        (λ stop. HaveStopped M.acts (M.has memory.old) shared.now.ids i (warp_of shared.now.pc shared.now.mask (registers_in lanes.old)) memory.old stop (registers_in lanes.new) memory.new) }
     ensures same_fields { M.has memory.new ≡ M.has memory.old }
     ensures sound { M.is_sound memory.new }
 {

@@ -206,6 +206,8 @@ impl Warp {
             ids,
             mask: self.mask,
             pc: self.pc,
+            rs1: i.rs1(),
+            rs2: i.rs2(),
             chosen: choice_of(did),
         };
         match act_all(&mut self.lanes, i, &shared, memory) {
