@@ -1,5 +1,5 @@
 -- The active lanes of a warp do an instruction one after another.
-use Rattle.std.proofs.Common.{◌≡◌, ℕ, zero, suc, ◌<◌, ◌≤◌, Bool, true, false, ◌&&◌, nat_eq, nat_lt, if◌then◌else◌, List, [], ◌∷◌, ◌++◌, Option, Some, None, inl, inr, ap, sym, ◌∙◌, subst, arith, refl, lt-ltb, le-ltb, eq-eqb, ne_eqb}
+use Rattle.std.proofs.Common.{◌≡◌, ℕ, suc, ◌<◌, ◌≤◌, true, false, nat_eq, if◌then◌else◌, List, [], ◌∷◌, ◌++◌, Some, None, inl, inr, ap, sym, ◌∙◌, subst, arith, refl, lt-ltb, le-ltb, eq-eqb, ne_eqb}
 use Rattle.std.proofs.Math.Path.{fun_ext}
 use Rattle.std.proofs.lemmas.Bool.{cases_lt, cases_eq}
 use Rattle.vx_isa.specs.Warps.{Registers, WarpState, has_lane, leader}
@@ -65,27 +65,27 @@ pub one_more_acted : {M : Type 0} (acts : M → Access → M → Type 0) (has : 
 unfolding accesses_below
 one_more_acted acts has ids i w m k registers m' acted answer registers' m'' made here there no_fault =
     let below : (a : ℕ → ℕ) → ((l : ℕ) → l < suc k → a l ≡ with_answer k answer acted.answers l) → (l : ℕ) → l < k → a l ≡ acted.answers l =
-      λ a same l less. same l (omega arith) ∙ with_answer-other k answer acted.answers l less in
+    λ a same l less. same l (omega arith) ∙ with_answer-other k answer acted.answers l less in
     let at : (a : ℕ → ℕ) → ((l : ℕ) → l < suc k → a l ≡ with_answer k answer acted.answers l) → a k ≡ answer =
-      λ a same. same k (omega arith) ∙ with_answer-same k answer acted.answers in
+    λ a same. same k (omega arith) ∙ with_answer-same k answer acted.answers in
     record {
       answers = with_answer k answer acted.answers;
       made = λ a same.
-        Makes-append acts (accesses_below k i a w) (lane_accesses i a w k) m m' m'' (acted.made a (below a same))
+          Makes-append acts (accesses_below k i a w) (lane_accesses i a w k) m m' m'' (acted.made a (below a same))
           (subst (λ (v : ℕ). Makes acts m' (lane_accesses i (λ lane. v) w k) m'') (sym (at a same)) made);
       registers_are = λ a same. fun_ext (λ l.
-        elim (cases_eq l k) [
-          | inl equal ↦
-              subst (λ (n : ℕ). registers' n ≡ acted_below (suc k) ids i a w n) (sym equal)
+          elim (cases_eq l k) [
+            | inl equal ↦
+                subst (λ (n : ℕ). registers' n ≡ acted_below (suc k) ids i a w n) (sym equal)
                 (here ∙ ap (lane_after ids i w k) (sym (at a same)) ∙ at_lane ids i a w k)
-          | inr other ↦
-              there l other ∙ ap (λ (r : ℕ → Registers). r l) (acted.registers_are a (below a same)) ∙ at_other ids i a w k l other
-        ]);
+            | inr other ↦
+                there l other ∙ ap (λ (r : ℕ → Registers). r l) (acted.registers_are a (below a same)) ∙ at_other ids i a w k l other
+          ]);
       no_fault = λ l less.
-        elim (cases_eq l k) [
-          | inl equal ↦ subst (λ (n : ℕ). lane_fault has i w n ≡ None) (sym equal) no_fault
-          | inr other ↦ acted.no_fault l (omega arith)
-        ];
+          elim (cases_eq l k) [
+            | inl equal ↦ subst (λ (n : ℕ). lane_fault has i w n ≡ None) (sym equal) no_fault
+            | inr other ↦ acted.no_fault l (omega arith)
+          ];
     }
 
 -- a lane that has not acted has its registers
@@ -105,15 +105,15 @@ active_acted {M} acts has ids i w m k registers m' acted chosen chose is_active 
     let P : Registers → Type 0 = λ r. HasActed acts has ids w.mask k w.pc chosen (effect_at i w.pc r) r m' (registers' k) m'' in
     let did : HasActed acts has ids w.mask k w.pc chosen (effect_at i w.pc (w.registers k)) (w.registers k) m' (registers' k) m'' = subst P own one in
     let no_fault : fault_of has w.pc (choice_of (effect_in i w (leader w.mask))) (effect_in i w k) ≡ None =
-      subst (λ (c : ℕ). fault_of has w.pc c (effect_in i w k) ≡ None) chose did.no_fault in
+    subst (λ (c : ℕ). fault_of has w.pc c (effect_in i w k) ≡ None) chose did.no_fault in
     one_more_acted acts has ids i w m k registers m' acted did.answer registers' m''
-      (rw (← is_active) did.made) (rw (← is_active) did.registers_are) others (rw (← is_active) no_fault)
+    (rw (← is_active) did.made) (rw (← is_active) did.registers_are) others (rw (← is_active) no_fault)
 
 -- the next lane is not active
 pub idle_acted : {M : Type 0} (acts : M → Access → M → Type 0) (has : Fields) (ids : Ids) (i : Instr) (w : WarpState) (m : M) (k : ℕ) (registers : ℕ → Registers) (m' : M) → HaveActed acts has ids i w m k registers m' → false ≡ has_lane w.mask k → HaveActed acts has ids i w m (suc k) registers m'
 idle_acted acts has ids i w m k registers m' acted is_idle =
     one_more_acted acts has ids i w m k registers m' acted 0 registers m'
-      (rw (← is_idle) refl) (rw (← is_idle) (own_registers acted)) (λ l other. refl) (rw (← is_idle) refl)
+    (rw (← is_idle) refl) (rw (← is_idle) (own_registers acted)) (λ l other. refl) (rw (← is_idle) refl)
 
 -- the next lane is active, and traps
 pub active_trapped : {M : Type 0} (acts : M → Access → M → Type 0) (has : Fields) (ids : Ids) (i : Instr) (w : WarpState) (m : M) (stop : Stop) (registers : ℕ → Registers) (m' : M) → HaveActed acts has ids i w m stop.lane registers m' → stop.lane < 32 →
@@ -125,16 +125,16 @@ unfolding effect_in
 active_trapped {M} acts has ids i w m stop registers m' acted below chosen chose is_active registers' m'' one others =
     let own : registers stop.lane ≡ w.registers stop.lane = own_registers acted in
     let fault_is : fault_of has w.pc chosen (effect_at i w.pc (w.registers stop.lane)) ≡ Some stop.fault =
-      subst (λ (r : Registers). fault_of has w.pc chosen (effect_at i w.pc r) ≡ Some stop.fault) own one.fault_is in
+    subst (λ (r : Registers). fault_of has w.pc chosen (effect_at i w.pc r) ≡ Some stop.fault) own one.fault_is in
     let fault_is' : fault_of has w.pc (choice_of (effect_in i w (leader w.mask))) (effect_in i w stop.lane) ≡ Some stop.fault =
-      subst (λ (c : ℕ). fault_of has w.pc c (effect_in i w stop.lane) ≡ Some stop.fault) chose fault_is in
+    subst (λ (c : ℕ). fault_of has w.pc c (effect_in i w stop.lane) ≡ Some stop.fault) chose fault_is in
     let same : registers ≡ registers' = fun_ext (λ l.
-      elim (cases_eq l stop.lane) [
-        | inl equal ↦ subst (λ (n : ℕ). registers n ≡ registers' n) (sym equal) (sym one.same_registers)
-        | inr other ↦ sym (others l other)
-      ]) in
+    elim (cases_eq l stop.lane) [
+      | inl equal ↦ subst (λ (n : ℕ). registers n ≡ registers' n) (sym equal) (sym one.same_registers)
+      | inr other ↦ sym (others l other)
+    ]) in
     let kept : HaveActed acts has ids i w m stop.lane registers' m' =
-      subst (λ (r : ℕ → Registers). HaveActed acts has ids i w m stop.lane r m') same acted in
+    subst (λ (r : ℕ → Registers). HaveActed acts has ids i w m stop.lane r m') same acted in
     record {
       below = subst (λ (n : M). HaveActed acts has ids i w m stop.lane registers' n) (sym one.same_memory) kept;
       is_lane = below;

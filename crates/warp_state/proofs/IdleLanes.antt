@@ -1,5 +1,5 @@
 -- Lanes whose registers are all 0.
-use Rattle.std.proofs.Common.{◌≡◌, ℕ, zero, suc, List, ◌∙◌, ap, refl, replicate, get_or}
+use Rattle.std.proofs.Common.{◌≡◌, ℕ, zero, suc, ◌∙◌, ap, refl, replicate, get_or}
 use Rattle.std.proofs.Math.Path.{fun_ext}
 use Rattle.warp_state.specs.Lanes.{idle, registers_in, registers_of}
 use Rattle.warp_state.specs.declared.lane.Lane.{Lane}

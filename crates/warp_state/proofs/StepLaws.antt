@@ -1,7 +1,7 @@
 -- From what the lanes have done to the step that it is.
-use Rattle.std.proofs.Common.{◌≡◌, ℕ, zero, suc, ◌<◌, ◌≤◌, ◌^◌, ◌++◌, Bool, true, false, List, Option, Some, None, is_some, ap, sym, ◌∙◌, subst, arith, refl}
-use Rattle.vx_isa.specs.Warps.{Registers, WarpState, has_lane, leader}
-use Rattle.vx_isa.specs.WarpSteps.{Access, LaneAccess, Fields, Stepped, Makes, Takes, effect_in, leads_to, lane_fault, lane_accesses, stop_lane, acted_below, accesses_below, lanes_stepped, lanes_step}
+use Rattle.std.proofs.Common.{◌≡◌, ℕ, zero, suc, ◌<◌, ◌^◌, ◌++◌, List, Some, None, is_some, ap, sym, ◌∙◌, subst, arith, refl}
+use Rattle.vx_isa.specs.Warps.{Registers, WarpState, leader}
+use Rattle.vx_isa.specs.WarpSteps.{Access, LaneAccess, Fields, Stepped, Makes, Takes, effect_in, leads_to, lane_fault, lane_accesses, stop_lane, accesses_below, lanes_stepped, lanes_step}
 use Rattle.vx_isa.specs.declared.instr.Instr.{Instr}
 use Rattle.vx_isa.specs.declared.warps.Held.{Held}
 use Rattle.vx_isa.specs.declared.warps.Ids.{Ids}
@@ -62,7 +62,7 @@ acted_takes acts has ids i w m registers m' below acted pc pc_is =
     let moved : WarpState = record { pc = leads_to w.pc (effect_in i w (leader w.mask)); mask = w.mask; registers = registers; stack = w.stack } in
     let goes : record { pc = pc; mask = w.mask; registers = registers; stack = w.stack } ≡ moved = ap (λ (p : ℕ). record { pc = p; mask = w.mask; registers = registers; stack = w.stack }) pc_is in
     let has_acted : moved ≡ (lanes_stepped ids i a w 32 None).warp =
-      ap (λ (r : ℕ → Registers). record { pc = leads_to w.pc (effect_in i w (leader w.mask)); mask = w.mask; registers = r; stack = w.stack }) (acted.registers_are a (λ l less. refl)) in
+    ap (λ (r : ℕ → Registers). record { pc = leads_to w.pc (effect_in i w (leader w.mask)); mask = w.mask; registers = r; stack = w.stack }) (acted.registers_are a (λ l less. refl)) in
     record {
       answers = a;
       made = subst (λ (s : Stepped). Makes acts m s.accesses m') (sym eq) (acted.made a (λ l less. refl));
@@ -78,7 +78,7 @@ stopped_takes acts has ids i w m stop registers m' stopped =
     let a = acted.answers in
     let eq : lanes_step has ids i a w ≡ lanes_stepped ids i a w stop.lane (Some stop.fault) = step_of_stop has ids i a w stop.lane stop.fault stopped.is_lane acted.no_fault stopped.fault_is in
     let has_acted : record { pc = w.pc; mask = w.mask; registers = registers; stack = w.stack } ≡ (lanes_stepped ids i a w stop.lane (Some stop.fault)).warp =
-      ap (λ (r : ℕ → Registers). record { pc = w.pc; mask = w.mask; registers = r; stack = w.stack }) (acted.registers_are a (λ l less. refl)) in
+    ap (λ (r : ℕ → Registers). record { pc = w.pc; mask = w.mask; registers = r; stack = w.stack }) (acted.registers_are a (λ l less. refl)) in
     record {
       answers = a;
       made = subst (λ (s : Stepped). Makes acts m s.accesses m') (sym eq) (acted.made a (λ l less. refl));

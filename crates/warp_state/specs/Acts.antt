@@ -1,5 +1,5 @@
 -- What the lanes of a warp do one after another.
-use Rattle.std.specs.Prelude.{◌≡◌, ℕ, ◌<◌, Bool, Option, Some, None, Result, Ok, Err, List, [], map}
+use Rattle.std.specs.Prelude.{◌≡◌, ℕ, ◌<◌, Bool, Some, None, List, [], map}
 use Rattle.vx_base.specs.declared.types.Size.{Size}
 use Rattle.vx_isa.specs.Effects.{effect_of}
 use Rattle.vx_isa.specs.Operands.{rs1_of, rs2_of}

@@ -267,3 +267,6 @@ impl Warp {
         }
     }
 }
+
+#[cfg(test)]
+mod tests;

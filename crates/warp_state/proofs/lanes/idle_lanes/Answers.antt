@@ -1,5 +1,4 @@
 use Rattle.warp_state.proofs.IdleLanes.{registers_in-idle}
-use Rattle.std.proofs.Common.{rules}
 use Rattle.warp_state.proofs.lanes.idle_lanes.Goals as goal
 
 pub returns : goal.returns

@@ -1,4 +1,4 @@
-use Rattle.std.proofs.Common.{◌≡◌, ℕ, ◌&&◌, not, nat_eq, ap, sym, ◌∙◌, Bool}
+use Rattle.std.proofs.Common.{ℕ, ◌&&◌, not, nat_eq, ap, ◌∙◌, Bool}
 use Rattle.std.specs.Prelude.{bit_or}
 use Rattle.std.proofs.Common.{◌*◌, ◌%◌, ◌^◌}
 use Rattle.vx_isa.specs.Warps.{has_lane, value_in}

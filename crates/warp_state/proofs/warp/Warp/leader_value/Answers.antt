@@ -1,4 +1,4 @@
-use Rattle.std.proofs.Common.{◌≡◌, ℕ, ap, ◌∙◌}
+use Rattle.std.proofs.Common.{ℕ, ap, ◌∙◌}
 use Rattle.vx_isa.specs.Warps.{value_in}
 use Rattle.vx_isa.specs.WarpSteps.{leader_value}
 use Rattle.warp_state.specs.Lanes.{KeptWarp, registers_in, state_of}

@@ -1,4 +1,4 @@
-use Rattle.std.proofs.Common.{◌≡◌, ℕ, ◌-◌, ◌<◌, ◌^◌, not, nat_eq, ap, sym, ◌∙◌, arith, refl, Bool, true, false}
+use Rattle.std.proofs.Common.{◌≡◌, ℕ, ◌-◌, not, nat_eq, ap, ◌∙◌, arith, refl, Bool, true, false}
 use Rattle.std.specs.Prelude.{bit_and}
 use Rattle.vx_isa.specs.Warps.{value_in}
 use Rattle.vx_isa.specs.WarpSteps.{zero_lanes}
