@@ -105,6 +105,46 @@ fn splits_and_joins(rt: HostRuntime) {
     assert_eq!(rt; run(&mut warp, &code, &mut memory, 1), empty);
 }
 
+// The places, the masks and the depths behind each step of `if (lane & 1) y = 10; else y = 20;`.
+#[test]
+fn goes_both_ways_of_a_divergent_if(rt: HostRuntime) {
+    let code = [
+        0xcc00_22f3, // csrr x5, 0xcc0
+        0x0012_f293, // andi x5, x5, 1
+        0x0002_a00b, // split x5
+        0x0002_8663, // beq x5, x0, 12
+        0x00a0_0313, // addi x6, x0, 10
+        0x0080_006f, // jal x0, 8
+        0x0140_0313, // addi x6, x0, 20
+        0x0000_300b, // join
+        0x0000_000b, // tmc x0
+    ];
+    let mut warp = warp_of(0b1111);
+    let mut memory = no_bytes();
+    for (place, mask, depth) in [
+        (0x04, 0b1111, 0),
+        (0x08, 0b1111, 0),
+        (0x0c, 0b1010, 2),
+        (0x10, 0b1010, 2),
+        (0x14, 0b1010, 2),
+        (0x1c, 0b1010, 2),
+        (0x0c, 0b0101, 1),
+        (0x18, 0b0101, 1),
+        (0x1c, 0b0101, 1),
+        (0x20, 0b1111, 0),
+    ] {
+        let _ = run(&mut warp, &code, &mut memory, 1);
+        assert_eq!(rt;
+            (warp.pc, warp.mask(), warp.depth()),
+            (START | place, mask, depth)
+        );
+    }
+    for (lane, y) in [(0, 20), (1, 10), (2, 20), (3, 10)] {
+        assert_eq!(rt; value_at(&warp.lanes, lane, 6), y);
+    }
+    assert_eq!(rt; run(&mut warp, &code, &mut memory, 1), Step::Ended);
+}
+
 #[test]
 fn fills_the_stack(rt: HostRuntime) {
     let agreeing = [
