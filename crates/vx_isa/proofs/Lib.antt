@@ -1,3 +1,5 @@
+mod WorkedWarps
+pub mod MaskLaws
 pub mod RowLaws
 pub mod WordLaws
 pub mod WorkedWords

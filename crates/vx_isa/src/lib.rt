@@ -10,7 +10,9 @@ pub mod image;
 pub mod instr;
 pub mod laws;
 pub mod operands;
+pub mod warps;
 
 pub use effects::effect;
 pub use image::{Image, Site, SiteList};
 pub use instr::{Instr, LaneEffect};
+pub use warps::{Held, Ids, MachineTrap, Step};
