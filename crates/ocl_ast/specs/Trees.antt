@@ -1,7 +1,6 @@
 -- The trees of a kernel file as plain data: each variant of `src/` with its parts, without pointers.
 use Rattle.std.specs.Prelude.{ℕ, Bool, List, Option}
 use Rattle.vx_base.specs.declared.types.Elem.{Elem}
-use Rattle.vx_base.specs.declared.types.ParamKind.{ParamKind}
 use Rattle.vx_base.specs.declared.types.Pos.{Pos}
 use Rattle.ocl_ast.specs.declared.exprs.BinOp.{BinOp}
 use Rattle.ocl_ast.specs.declared.exprs.Ident.{Ident}

@@ -6,6 +6,7 @@
 #![tactic(auto)]
 
 pub mod exprs;
+pub mod nodes;
 pub mod stmts;
 pub mod units;
 
