@@ -1,18 +1,17 @@
 -- The operands of a line's statement fit its instruction, where its numbers fit and it has no label for a place.
-use Rattle.std.proofs.Common.{◌≡◌, ℕ, ◌-◌, Bool, true, false, List, length, take, drop, refl, sym, ap, ◌∙◌}
-use Rattle.std.specs.Prelude.{Option, Some, None, Result, Ok, Err, ◌==◌, slice_index, IfSome, if◌then◌else◌}
+use Rattle.std.proofs.Common.{◌≡◌, ℕ, ◌-◌, List, length, take, drop, refl, sym, ap}
+use Rattle.std.specs.Prelude.{Option, Some, None, Result, Ok, Err, ◌==◌, slice_index, IfSome}
 use Rattle.std.specs.List.{prefix_len}
 use Rattle.asm_text.specs.declared.mnemonics.Mnemonic.{Mnemonic}
 use Rattle.asm_text.specs.declared.statements.Span.{Span}
 use Rattle.asm_text.specs.declared.statements.Statement.{Statement}
 use Rattle.asm_text.specs.declared.statements.Line.{Line}
 use Rattle.asm_text.specs.declared.statements.AsmFault.{AsmFault}
-use Rattle.asm_text.specs.Mnemonics.{all_mnemonics, form_of, parts_of, instr_of, three}
+use Rattle.asm_text.specs.Mnemonics.{all_mnemonics, form_of, parts_of}
 use Rattle.asm_text.specs.AsmLines.{Read, ◌>>=◌, past_blanks, is_in_name, begins_name, bare, operands_at, operands_or_refused, mnemonic_named, known_bytes, word_len, statement_at, ends, ended, with_statement, rest_of_line, named_line, line_of}
-use Rattle.asm_text.specs.AsmTexts as texts
 use Rattle.asm_text.specs.AsmTexts.{said_in, fitting, misfit_of, line_or_fault}
 use Rattle.vx_asm.specs.Listing.{fits_statement}
-use Rattle.vx_asm.proofs.FittingOperands.{either, Took, Leaves, Takes, taken_fit, after_parts}
+use Rattle.vx_asm.proofs.FittingOperands.{either, Took, Leaves, taken_fit, after_parts}
 
 -- a statement whose operands fit, if its numbers do and it has no label
 abbrev Sound : Statement → Type 0

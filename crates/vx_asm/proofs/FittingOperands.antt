@@ -1,6 +1,6 @@
 -- The operands of a statement that is read, without a label and with numbers that fit, fit its instruction.
-use Rattle.std.proofs.Common.{◌≡◌, ℕ, zero, suc, ◌+◌, ◌-◌, ◌*◌, ◌%◌, ◌^◌, ◌<◌, ◌≤◌, Bool, true, false, List, [], ◌∷◌, length, take, drop, refl, sym, ap, ◌∙◌, arith, true≢false}
-use Rattle.std.specs.Prelude.{Option, Some, None, Result, Ok, Err, ◌==◌, nat_lt, nat_le, nat_eq, not, ◌&&◌, slice_index, IfSome, is_some, if◌then◌else◌}
+use Rattle.std.proofs.Common.{◌≡◌, ℕ, ◌-◌, ◌%◌, ◌^◌, ◌<◌, Bool, true, false, List, [], ◌∷◌, length, drop, refl, sym, ap, ◌∙◌, arith, true≢false}
+use Rattle.std.specs.Prelude.{Option, Some, None, Ok, Err, ◌==◌, nat_lt, nat_le, not, ◌&&◌, slice_index, is_some, if◌then◌else◌}
 use Rattle.std.proofs.lemmas.Bool.Decides.{nat_tests}
 use Rattle.std.specs.List.{prefix_len}
 use Rattle.vx_isa.specs.Words.{is_register, is_signed, is_place, is_csr, are_registers, fits_signed, fits_branch, fits_upper}
@@ -13,11 +13,9 @@ use Rattle.asm_text.specs.declared.mnemonics.Part.{Part}
 use Rattle.asm_text.specs.declared.mnemonics.Part.TheVariants.{Register, Number, Place, Comma, Open, Close}
 use Rattle.asm_text.specs.declared.mnemonics.Operands.{Operands}
 use Rattle.asm_text.specs.declared.statements.Number.{Number as Written}
-use Rattle.asm_text.specs.declared.statements.Span.{Span}
 use Rattle.asm_text.specs.declared.statements.Statement.{Statement}
-use Rattle.asm_text.specs.declared.statements.Line.{Line}
 use Rattle.asm_text.specs.Mnemonics.{form_of, parts_of, instr_of, three, with_operand}
-use Rattle.asm_text.specs.AsmLines.{Read, ◌>>=◌, past_blanks, is_decimal, is_two_digits, two_digits, register_number_at, register_at, number_at, fits_field, word_of_number, first_of_both, begins_name, is_in_name, mark_at, with_word, with_number, with_target, field_at, place_at, part_at, parts_at, bare, operands_at}
+use Rattle.asm_text.specs.AsmLines.{Read, ◌>>=◌, past_blanks, is_decimal, is_two_digits, two_digits, register_number_at, register_at, number_at, fits_field, word_of_number, first_of_both, begins_name, is_in_name, mark_at, with_word, with_number, with_target, field_at, part_at, parts_at}
 use Rattle.asm_text.specs.AsmTexts.{fits_some}
 
 by_test : {P : Type 0} (t : Bool) → (t ≡ true → P) → (t ≡ false → P) → P

@@ -1,15 +1,12 @@
 -- Labels and statements line by line.
-use Rattle.std.proofs.Common.{◌≡◌, ℕ, zero, suc, ◌+◌, ◌<◌, ◌≤◌, ◌⊎◌, inl, inr, Bool, true, false, List, [], ◌∷◌, ◌++◌, length, drop, refl, sym, ap, ◌∙◌, append_assoc, arith}
-use Rattle.std.specs.Prelude.{Option, Some, None, Result, Ok, Err, get_or, ◌==◌}
+use Rattle.std.proofs.Common.{◌≡◌, ℕ, suc, ◌+◌, ◌<◌, ◌≤◌, ◌⊎◌, inl, inr, List, [], ◌∷◌, ◌++◌, length, drop, refl, sym, ap, ◌∙◌, append_assoc, arith}
+use Rattle.std.specs.Prelude.{Option, Some, None, Result, Ok, Err, get_or}
 use Rattle.std.proofs.lemmas.List.{append-nil, drop_more, drop_all}
-use Rattle.asm_text.specs.declared.statements.Span.{Span}
 use Rattle.asm_text.specs.declared.statements.Statement.{Statement}
 use Rattle.asm_text.specs.declared.statements.Line.{Line}
 use Rattle.asm_text.specs.declared.statements.AsmFault.{AsmFault}
 use Rattle.asm_text.specs.declared.statements.AsmFault.TheVariants.{Memory}
-use Rattle.asm_text.specs.Lines.{lines}
-use Rattle.asm_text.specs.HexLines.{most_words}
-use Rattle.asm_text.specs.AsmTexts.{Labels, ◌>>=◌, said_in, fitting, misfit_of, with_label, with_word_of, counted, labels_from, word_in_list, resolved, words_of_statement, words_of_line, appended, words_from}
+use Rattle.asm_text.specs.AsmTexts.{Labels, ◌>>=◌, said_in, fitting, misfit_of, with_label, with_word_of, counted, word_in_list, resolved, words_of_statement, words_of_line, appended}
 use Rattle.vx_asm.specs.declared.listing.Listed.{Listed}
 use Rattle.vx_asm.specs.Listing.{line_read, word_of_listed, words_of_listed, and_then}
 

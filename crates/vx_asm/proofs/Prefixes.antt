@@ -1,5 +1,5 @@
 -- How far the front of a list goes.
-use Rattle.std.proofs.Common.{◌≡◌, ℕ, zero, suc, ◌+◌, ◌<◌, ◌≤◌, Bool, true, false, List, [], ◌∷◌, length, take, drop, min, max, refl, sym, ap, ◌∙◌, arith, add-one}
+use Rattle.std.proofs.Common.{◌≡◌, ℕ, ◌+◌, ◌<◌, ◌≤◌, Bool, true, false, List, [], ◌∷◌, length, take, drop, min, max, refl, arith}
 use Rattle.std.specs.Prelude.{slice_index, nat_eq, nat_le, get_or}
 use Rattle.std.specs.List.{prefix_len, common_prefix_len}
 use Rattle.std.proofs.lemmas.List.{take_min, drop_more, drop_all}

@@ -1,14 +1,13 @@
 -- Labels and statements of a whole text, as a loop over its lines finds them.
-use Rattle.std.proofs.Common.{◌≡◌, ℕ, zero, suc, ◌+◌, ◌≤◌, ◌⊎◌, inl, inr, Bool, true, false, cond, List, [], ◌∷◌, ◌++◌, length, refl, sym, ap, ◌∙◌, append_assoc, arith}
+use Rattle.std.proofs.Common.{◌≡◌, ℕ, ◌+◌, ◌⊎◌, inl, inr, Bool, true, false, cond, List, [], ◌∷◌, ◌++◌, length, refl, sym, ap, ◌∙◌, append_assoc, arith}
 use Rattle.std.specs.Prelude.{Option, Some, None, Result, Ok, Err, ◌==◌}
-use Rattle.std.proofs.lemmas.List.{append-nil, length-append}
+use Rattle.std.proofs.lemmas.List.{append-nil}
 use Rattle.asm_text.specs.declared.statements.Statement.{Statement}
-use Rattle.asm_text.specs.declared.statements.Line.{Line}
 use Rattle.asm_text.specs.declared.statements.AsmFault.{AsmFault}
 use Rattle.asm_text.specs.declared.statements.AsmFault.TheVariants.{Memory, TooLarge}
 use Rattle.asm_text.specs.HexLines.{most_words}
 use Rattle.asm_text.specs.Lines.{lines}
-use Rattle.asm_text.specs.AsmTexts.{Labels, ◌>>=◌, said_in, fitting, misfit_of, with_label, with_word_of, counted, labels_from, word_in_list, resolved, words_of_statement, words_of_line, appended, words_from}
+use Rattle.asm_text.specs.AsmTexts.{Labels, ◌>>=◌, with_word_of, counted, labels_from, word_in_list, resolved, words_of_statement, words_of_line, appended, words_from}
 use Rattle.vx_asm.specs.declared.listing.Listed.{Listed}
 use Rattle.vx_asm.specs.Listing.{words_of_listed, and_then}
 use Rattle.vx_asm.proofs.ListingLaws.{Counted, counted_is_read, words_are_said}

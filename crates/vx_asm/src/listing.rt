@@ -64,7 +64,7 @@ fn text_of(line: &[u8], span: Span) -> &[u8]
 }
 
 /// What the line with this number says.
-fn said_in(number: u32, line: &[u8]) -> Result<Line, AsmFault>
+fn line_or_fault(number: u32, line: &[u8]) -> Result<Line, AsmFault>
     requires { length line.now ≤ 2097152 }
     ensures { result ≡ spec.said_in number line.now }
 {
@@ -94,7 +94,7 @@ fn read_line(number: u32, line: &[u8]) -> Result<Line, AsmFault>
     ensures said { result ≡ line_read number line.now }
     ensures fits { IfOk result (λ said. IfSome said.statement (λ s. s.target ≡ None → fits_statement s)) }
 {
-    let said = said_in(number, line)?;
+    let said = line_or_fault(number, line)?;
     check_numbers(number, line, said.statement)?;
     Ok(said)
 }

@@ -1,37 +1,28 @@
 -- The line of each word is read back as the word.
-use Rattle.std.proofs.Common.{◌≡◌, ℕ, zero, suc, ◌+◌, ◌-◌, ◌*◌, ◌/◌, ◌%◌, ◌^◌, ◌<◌, ◌≤◌, ◌⊎◌, inl, inr, Bool, true, false, List, [], ◌∷◌, ◌++◌, length, take, drop, refl, sym, ap, ◌∙◌, append_assoc, arith}
-use Rattle.std.specs.Prelude.{Option, Some, None, Result, Ok, Err, ◌==◌, ◌&&◌, nat_lt, slice_index, codes}
-use Rattle.std.specs.Char.{digit_value, is_digit}
+use Rattle.std.proofs.Common.{◌≡◌, ℕ, zero, suc, ◌+◌, ◌*◌, ◌/◌, ◌%◌, ◌^◌, ◌<◌, Bool, true, false, List, [], ◌∷◌, ◌++◌, length, refl, sym, ap, ◌∙◌, arith}
+use Rattle.std.specs.Prelude.{Some, None, Ok, ◌==◌, nat_lt, slice_index, codes}
+use Rattle.std.specs.Char.{digit_value}
 use Rattle.std.specs.Int.{to_be_bytes, from_be_bytes, w32}
 use Rattle.std.proofs.lemmas.Nat.{from_be_bytes-to_be_bytes_4}
-use Rattle.std.specs.List.{prefix_len, position_or_len}
-use Rattle.std.specs.Fmt.{decimal}
-use Rattle.std.specs.Str.Parse.{digits_value, AllDigits, IsNumeral}
+use Rattle.std.specs.List.{prefix_len}
+use Rattle.std.specs.Str.Parse.{digits_value, AllDigits}
 use Rattle.std.proofs.lemmas.Bool.Decides.{nat_tests}
-use Rattle.std.proofs.lemmas.Fmt.{decimal_is_IsNumeral, digits_is_IsNumeral}
-use Rattle.std.proofs.lemmas.List.{append-nil, length-append}
+use Rattle.std.proofs.lemmas.List.{append-nil}
 use Rattle.vx_isa.specs.declared.instr.Instr.{Instr}
-use Rattle.vx_isa.specs.Words.{word_of, fits_of, Fits, Spells}
-use Rattle.vx_isa.specs.Rows.{row_of}
-use Rattle.vx_isa.proofs.RowLaws.{row_is_spelled}
 use Rattle.asm_text.specs.HexLines.{encode_lower, encode_with, lower_digits}
 use Rattle.asm_text.specs.declared.mnemonics.Mnemonic.{Mnemonic}
 use Rattle.asm_text.specs.declared.mnemonics.Mnemonic.TheVariants as row
 use Rattle.asm_text.specs.declared.mnemonics.Form.{Form}
 use Rattle.asm_text.specs.declared.mnemonics.Form.TheVariants as form
 use Rattle.asm_text.specs.declared.mnemonics.Operands.{Operands}
-use Rattle.asm_text.specs.declared.mnemonics.Part.{Part}
-use Rattle.asm_text.specs.declared.mnemonics.Part.TheVariants.{Register, Number, Place, Comma, Open, Close}
 use Rattle.asm_text.specs.declared.statements.Statement.{Statement}
 use Rattle.asm_text.specs.declared.statements.Line.{Line}
-use Rattle.asm_text.specs.Mnemonics.{name_of, form_of, parts_of, instr_of, mnemonic_of, operands_of, three}
-use Rattle.asm_text.specs.AsmLines.{Read, ◌>>=◌, is_blank, past_blanks, bare, begins_name, is_in_name, mnemonic_named, operands_at, operands_or_refused, with_statement, ended, ends, named_line, rest_of_line, statement_at, parts_at, part_at, number_at, size_at, digits_at, line_of}
-use Rattle.asm_text.specs.AsmTexts.{word_of_statement, word_or_number}
+use Rattle.asm_text.specs.Mnemonics.{name_of, form_of, parts_of, operands_of, three}
+use Rattle.asm_text.specs.AsmLines.{is_blank, past_blanks, bare, begins_name, is_in_name, mnemonic_named, operands_at, ended, named_line, rest_of_line, statement_at, parts_at, part_at, number_at, size_at, digits_at, line_of}
 use Rattle.vx_disasm.specs.Texts.{operands_text}
 use Rattle.vx_disasm.proofs.PrintedNumbers.{by_test, digits_read, take_front, drop_front}
-use Rattle.vx_disasm.proofs.PrintedParts.{InRange, parts_text, with_words, PartsRead, parts_read, no_blank, after_blank, not_blank, no_colon}
-use Rattle.vx_disasm.proofs.PrintedRows.{Row, Plain, shown, lead, printed, spaced, statement_of}
-use Rattle.vx_disasm.proofs.PrintedRows as rows
+use Rattle.vx_disasm.proofs.PrintedParts.{InRange, parts_text, PartsRead, parts_read, no_blank, after_blank, not_blank, no_colon}
+use Rattle.vx_disasm.proofs.PrintedRows.{Row, shown, lead, printed, spaced, statement_of}
 
 abbrev pub said : Statement → Line
 said s = record { label = None; statement = Some s }

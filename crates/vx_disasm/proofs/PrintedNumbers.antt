@@ -1,17 +1,15 @@
 -- Registers and numbers as they are printed are read back.
-use Rattle.std.proofs.Common.{◌≡◌, ℕ, zero, suc, ◌+◌, ◌-◌, ◌*◌, ◌/◌, ◌%◌, ◌^◌, ◌<◌, ◌≤◌, ◌⊎◌, inl, inr, min, Bool, true, false, List, [], ◌∷◌, ◌++◌, length, take, drop, refl, sym, ap, ◌∙◌, arith, true≢false, ℤ, pos, negsuc, ◌-ℤ◌}
-use Rattle.std.specs.Prelude.{Result, Ok, Err, ◌==◌, nat_lt, nat_le, nat_eq, not, ◌&&◌, slice_index, get_or, if◌then◌else◌}
-use Rattle.std.specs.Char.{is_digit, digit_value}
+use Rattle.std.proofs.Common.{◌≡◌, ℕ, zero, suc, ◌+◌, ◌-◌, ◌*◌, ◌/◌, ◌%◌, ◌^◌, ◌<◌, ◌≤◌, ◌⊎◌, inl, inr, min, Bool, true, false, List, [], ◌∷◌, ◌++◌, length, take, drop, refl, ap, ◌∙◌, arith, pos, negsuc, ◌-ℤ◌}
+use Rattle.std.specs.Prelude.{Ok, ◌==◌, nat_lt, slice_index, get_or}
+use Rattle.std.specs.Char.{is_digit}
 use Rattle.std.specs.List.{prefix_len}
 use Rattle.std.specs.Fmt.{decimal, digits, digits_onto, digit_glyph}
 use Rattle.std.specs.Str.Parse.{digits_value, AllDigits, IsNumeral}
 use Rattle.std.proofs.lemmas.Bool.Decides.{nat_tests}
 use Rattle.std.proofs.lemmas.Fmt.{decimal_digit, decimal_step, first_decimal, decimal_is_IsNumeral, digits_is_IsNumeral, length-decimal-le}
-use Rattle.std.proofs.lemmas.List.{length-append}
 use Rattle.std.proofs.lemmas.Int.{ints}
-use Rattle.vx_base.specs.Values.{signed_of}
 use Rattle.vx_isa.specs.Words.{is_register}
-use Rattle.asm_text.specs.AsmLines.{Read, ◌>>=◌, digits_at, size_at, number_at, register_number_at, register_at, is_decimal, is_two_digits, two_digits, signed}
+use Rattle.asm_text.specs.AsmLines.{digits_at, size_at, number_at, register_number_at, register_at, is_decimal, is_two_digits, two_digits}
 use Rattle.vx_disasm.specs.Texts.{hexadecimal}
 use Rattle.vx_disasm.specs.Texts as text
 

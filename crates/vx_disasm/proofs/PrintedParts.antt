@@ -1,11 +1,9 @@
 -- The parts of a statement as they are printed are read back.
-use Rattle.std.proofs.Common.{◌≡◌, ℕ, zero, suc, ◌+◌, ◌-◌, ◌*◌, ◌/◌, ◌%◌, ◌^◌, ◌<◌, ◌≤◌, ◌⊎◌, inl, inr, Bool, true, false, List, [], ◌∷◌, ◌++◌, length, take, drop, refl, sym, ap, ◌∙◌, arith, true≢false}
-use Rattle.std.specs.Prelude.{Result, Ok, Err, Option, Some, None, ◌==◌, nat_lt, nat_le, nat_eq, not, ◌&&◌, slice_index, if◌then◌else◌}
+use Rattle.std.proofs.Common.{◌≡◌, ℕ, ◌-◌, ◌^◌, ◌<◌, ◌≤◌, ◌⊎◌, inl, inr, Bool, true, false, List, [], ◌∷◌, ◌++◌, length, refl, ap, ◌∙◌, arith}
+use Rattle.std.specs.Prelude.{Ok, ◌==◌, nat_lt, slice_index}
 use Rattle.std.specs.Char.{digit_value}
-use Rattle.std.specs.List.{prefix_len}
-use Rattle.std.specs.Int.{to_be_bytes, w32}
 use Rattle.std.specs.Fmt.{decimal}
-use Rattle.std.specs.Str.Parse.{digits_value, AllDigits, IsNumeral}
+use Rattle.std.specs.Str.Parse.{IsNumeral}
 use Rattle.std.proofs.lemmas.Bool.Decides.{nat_tests}
 use Rattle.std.proofs.lemmas.Fmt.{decimal_is_IsNumeral}
 use Rattle.vx_isa.specs.Words.{is_register, is_signed, is_place, is_csr}
@@ -15,11 +13,10 @@ use Rattle.asm_text.specs.declared.mnemonics.Part.{Part}
 use Rattle.asm_text.specs.declared.mnemonics.Part.TheVariants.{Register, Number, Place, Comma, Open, Close}
 use Rattle.asm_text.specs.declared.statements.Number.{Number as Written}
 use Rattle.asm_text.specs.declared.statements.Statement.{Statement}
-use Rattle.asm_text.specs.HexLines.{hex_line}
-use Rattle.asm_text.specs.AsmLines.{Read, ◌>>=◌, is_blank, past_blanks, begins_name, number_at, digits_at, size_at, register_at, fits_field, word_of_number, with_word, with_number, field_at, place_at, part_at, parts_at}
+use Rattle.asm_text.specs.AsmLines.{Read, ◌>>=◌, is_blank, past_blanks, begins_name, number_at, fits_field, word_of_number, with_word, with_number, field_at, place_at, part_at, parts_at}
 use Rattle.vx_disasm.specs.Texts.{hexadecimal}
 use Rattle.vx_disasm.specs.Texts as text
-use Rattle.vx_disasm.proofs.PrintedNumbers.{by_test, Stops, digits_read, number_read, minus_read, hexadecimal_read, register_read, not_negative, negative, first_decimal_byte}
+use Rattle.vx_disasm.proofs.PrintedNumbers.{by_test, Stops, number_read, minus_read, hexadecimal_read, register_read, not_negative, negative, first_decimal_byte}
 
 -- ---- numbers for fields
 

@@ -1,18 +1,17 @@
 -- Each row of the table as it is printed and read.
-use Rattle.std.proofs.Common.{◌≡◌, ℕ, ◌+◌, ◌-◌, ◌^◌, ◌<◌, ◌≤◌, Bool, true, false, List, [], ◌∷◌, ◌++◌, length, refl, sym, ap, ◌∙◌, arith}
-use Rattle.std.specs.Prelude.{Option, Some, None, ◌==◌, ◌&&◌, nat_lt, slice_index}
+use Rattle.std.proofs.Common.{◌≡◌, ℕ, ◌^◌, Bool, true, false, List, [], ◌∷◌, ◌++◌, length, refl, arith}
+use Rattle.std.specs.Prelude.{Some, None, ◌==◌, ◌&&◌, nat_lt, slice_index}
 use Rattle.std.specs.List.{prefix_len, position_or_len}
 use Rattle.std.specs.Fmt.{decimal}
 use Rattle.std.proofs.lemmas.Bool.Decides.{nat_tests}
 use Rattle.std.proofs.lemmas.List.{append-nil}
 use Rattle.vx_isa.specs.declared.instr.Instr.{Instr}
 use Rattle.vx_isa.specs.declared.instr.Instr.TheVariants.{Lui, Auipc, Jal, Jalr, Beq, Bne, Blt, Bge, Bltu, Bgeu, Lb, Lh, Lw, Lbu, Lhu, Sb, Sh, Sw, Addi, Slti, Sltiu, Xori, Ori, Andi, Slli, Srli, Srai, Add, Sub, Sll, Slt, Sltu, Xor, Srl, Sra, Or, And, Mul, Mulh, Mulhsu, Mulhu, Div, Divu, Rem, Remu, Fence, Ebreak, Csrr, Tmc, Wspawn, Split, Join, Bar, Pred}
-use Rattle.vx_isa.specs.Words.{is_register, is_signed, is_place, is_csr, are_registers, fits_signed, fits_branch, fits_upper, fits_of, Fits}
+use Rattle.vx_isa.specs.Words.{is_register, is_signed, is_place, is_csr, are_registers, fits_signed, fits_branch, fits_upper, Fits}
 use Rattle.asm_text.specs.declared.mnemonics.Mnemonic.{Mnemonic}
 use Rattle.asm_text.specs.declared.mnemonics.Form.{Form}
 use Rattle.asm_text.specs.declared.mnemonics.Form.TheVariants as form
 use Rattle.asm_text.specs.declared.mnemonics.Operands.{Operands}
-use Rattle.asm_text.specs.declared.mnemonics.Part.{Part}
 use Rattle.asm_text.specs.declared.statements.Statement.{Statement}
 use Rattle.asm_text.specs.Mnemonics.{name_of, form_of, parts_of, instr_of, mnemonic_of, operands_of}
 use Rattle.asm_text.specs.AsmLines.{bare, begins_name, is_in_name, mnemonic_named}

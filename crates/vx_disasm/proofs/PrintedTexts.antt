@@ -1,15 +1,14 @@
 -- The text of some words is assembled to the words.
-use Rattle.std.proofs.Common.{◌≡◌, ℕ, zero, suc, ◌+◌, ◌-◌, ◌^◌, ◌<◌, ◌≤◌, Bool, true, false, List, [], ◌∷◌, ◌++◌, length, refl, sym, ap, ◌∙◌, append_assoc, arith}
-use Rattle.std.specs.Prelude.{Option, Some, None, Result, Ok, Err, ◌==◌, nat_lt, slice_index, codes}
-use Rattle.std.specs.Char.{digit_value}
+use Rattle.std.proofs.Common.{◌≡◌, ℕ, suc, ◌+◌, ◌-◌, ◌^◌, ◌<◌, ◌≤◌, true, false, List, [], ◌∷◌, ◌++◌, length, refl, sym, ap, ◌∙◌, append_assoc, arith}
+use Rattle.std.specs.Prelude.{Option, Some, None, Ok, ◌==◌, nat_lt, slice_index, codes}
 use Rattle.std.specs.Int.{to_be_bytes, w32}
 use Rattle.std.specs.List.{position_or_len}
 use Rattle.std.specs.Fmt.{decimal}
-use Rattle.std.specs.Str.Parse.{AllDigits, IsNumeral}
+use Rattle.std.specs.Str.Parse.{AllDigits}
 use Rattle.std.proofs.lemmas.Bool.Decides.{nat_tests}
 use Rattle.std.proofs.lemmas.Fmt.{decimal_is_IsNumeral, digits_is_IsNumeral}
 use Rattle.vx_isa.specs.declared.instr.Instr.{Instr}
-use Rattle.vx_isa.specs.Words.{word_of, Fits, Spells}
+use Rattle.vx_isa.specs.Words.{word_of, Spells}
 use Rattle.vx_isa.specs.Rows.{row_of}
 use Rattle.vx_isa.proofs.RowLaws.{row_is_spelled}
 use Rattle.asm_text.specs.declared.mnemonics.Mnemonic.{Mnemonic}
@@ -22,13 +21,11 @@ use Rattle.asm_text.specs.declared.mnemonics.Part.{Part}
 use Rattle.asm_text.specs.declared.mnemonics.Part.TheVariants.{Register, Number, Place, Comma, Open, Close}
 use Rattle.asm_text.specs.declared.mnemonics.Operands.{Operands}
 use Rattle.asm_text.specs.declared.statements.Statement.{Statement}
-use Rattle.asm_text.specs.declared.statements.Line.{Line}
-use Rattle.asm_text.specs.declared.statements.AsmFault.{AsmFault}
-use Rattle.asm_text.specs.HexLines.{hex_line, most_words, encode_lower}
+use Rattle.asm_text.specs.HexLines.{most_words, encode_lower}
 use Rattle.asm_text.specs.Lines.{lines}
-use Rattle.asm_text.specs.Mnemonics.{name_of, form_of, parts_of, instr_of, mnemonic_of, operands_of, three}
+use Rattle.asm_text.specs.Mnemonics.{name_of, form_of, parts_of, mnemonic_of, operands_of, three}
 use Rattle.asm_text.specs.AsmLines.{line_of}
-use Rattle.asm_text.specs.AsmTexts.{◌>>=◌, Labels, assembled, counted, labels_from, words_of_line, words_from, line_or_fault, said_in, fitting, misfit_of, resolved, word_in_list, word_of_statement, word_or_number, appended}
+use Rattle.asm_text.specs.AsmTexts.{assembled, counted, labels_from, words_of_line, words_from, line_or_fault, said_in, word_of_statement, word_or_number}
 use Rattle.asm_text.proofs.LineLaws.{line_before}
 use Rattle.vx_disasm.specs.Texts.{hexadecimal, operands_text, instr_text, row_text, line_text, lines_text}
 use Rattle.vx_disasm.specs.Texts as text

@@ -1,4 +1,4 @@
-use Rattle.std.proofs.Common.{◌≡◌, ◌⊎◌, inr, ◌+◌, length, arith, sym}
+use Rattle.std.proofs.Common.{inr, arith, sym}
 use Rattle.std.proofs.lemmas.Result.{err_from_is_err_and}
 use Rattle.vx_asm.specs.declared.listing.Listed.TheVariants.{Word}
 use Rattle.vx_asm.specs.Listing.{words_of_listed}

@@ -1,4 +1,4 @@
-use Rattle.std.proofs.Common.{◌≡◌, arith}
+use Rattle.std.proofs.Common.{arith}
 use Rattle.std.proofs.lemmas.Result.{err_from_is_err_and}
 use Rattle.asm_text.specs.declared.mnemonics.Part.TheVariants.{Register}
 use Rattle.asm_text.specs.AsmLines.{operands_at}

@@ -1,4 +1,4 @@
-use Rattle.std.proofs.Common.{◌≡◌, ◌⊎◌, inl, inr, ◌∙◌, sym, length, OnOk, IfErr, Ok, Err, arith}
+use Rattle.std.proofs.Common.{inr, sym, length, arith}
 use Rattle.std.proofs.lemmas.Result.{err_from_is_err_and}
 use Rattle.vx_asm.proofs.ListingLaws.{line_is_refused, label_fault, word_fault, line_counts, line_is_noted}
 use Rattle.vx_asm.proofs.listing.list_line.Goals as goal

@@ -1,9 +1,8 @@
-use Rattle.std.proofs.Common.{◌≡◌, ◌⊎◌, inl, inr, ◌∙◌, sym, length, [], arith}
+use Rattle.std.proofs.Common.{◌≡◌, length, [], arith}
 use Rattle.std.proofs.lemmas.Bool.Decides.{nat_tests}
 use Rattle.std.proofs.lemmas.Result.{err_from_is_err_and}
 use Rattle.asm_text.specs.Lines.{lines}
-use Rattle.asm_text.specs.AsmTexts.{Labels, labels_from, words_from}
-use Rattle.vx_asm.specs.Listing.{words_of_listed}
+use Rattle.asm_text.specs.AsmTexts.{labels_from, words_from}
 use Rattle.vx_asm.proofs.TextLaws.{labels_begin, labels_go_on, labels_are_refused, labels_end, words_go_on, words_end, words_begin}
 use Rattle.vx_asm.proofs.listing.list_text.Goals as goal
 
@@ -11,7 +10,7 @@ pub loop-rest-init : goal.loop-rest-init
 loop-rest-init c = (
   omega arith,
   omega arith,
-  omega (arith, c.new-2.ensures.items),
+  omega arith,
   labels_begin (lines c.args.text.now) c.new-2.result.items c.new.result c.new-2.ensures.items c.new.ensures,
   words_begin (lines c.args.text.now) c.new-2.result.items c.new-2.ensures.items,
 )

@@ -1,4 +1,3 @@
-use Rattle.std.proofs.Common.{◌≡◌, ◌++◌, ◌∷◌, []}
 use Rattle.vx_asm.proofs.ListingLaws.{statement_is_noted}
 use Rattle.vx_asm.proofs.listing.note_statement.Goals as goal
 

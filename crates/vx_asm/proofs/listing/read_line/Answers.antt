@@ -1,4 +1,4 @@
-use Rattle.std.proofs.Common.{◌≡◌, ◌∙◌, sym}
+use Rattle.std.proofs.Common.{sym}
 use Rattle.vx_asm.proofs.FittingLines.{line_fits}
 use Rattle.vx_asm.proofs.listing.read_line.Goals as goal
 

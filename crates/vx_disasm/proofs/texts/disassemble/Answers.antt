@@ -1,6 +1,4 @@
-use Rattle.std.proofs.Common.{◌≡◌, ◌≤◌, length, Ok, arith}
-use Rattle.asm_text.specs.AsmTexts.{assembled}
-use Rattle.vx_disasm.specs.Texts.{lines_text}
+use Rattle.std.proofs.Common.{arith}
 use Rattle.vx_disasm.proofs.PrintedTexts.{text_is_assembled}
 use Rattle.vx_disasm.proofs.texts.disassemble.Goals as goal
 

@@ -1,4 +1,4 @@
-use Rattle.std.proofs.Common.{◌≡◌, sym}
+use Rattle.std.proofs.Common.{sym}
 use Rattle.vx_asm.proofs.LabelLaws.{label_is_added}
 use Rattle.vx_asm.proofs.labels.Labels.add.Goals as goal
 
