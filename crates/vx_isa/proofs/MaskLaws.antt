@@ -39,8 +39,8 @@ pub leader-trailing_zeros : (mask : ℕ) → 0 < mask → mask < 2 ^ 32 → lead
 leader-trailing_zeros mask some below =
     let place = bit_at-trailing_zeros w32 mask some below in
     least_below-found 32 (has_lane mask) (trailing_zeros w32 mask) place.0
-      (λ j less. has_lane-zero mask j (place.2 j less))
-      (has_lane-one mask (trailing_zeros w32 mask) place.1)
+    (λ j less. has_lane-zero mask j (place.2 j less))
+    (has_lane-one mask (trailing_zeros w32 mask) place.1)
 
 pub leader-lane : (mask : ℕ) → 0 < mask → mask < 2 ^ 32 → has_lane mask (leader mask) ≡ true
 leader-lane mask some below =
@@ -88,18 +88,18 @@ bit_at-lanes_below (suc n) test k below =
       | inr not_less ↦
           let last : k ≡ n = omega arith in
           subst (λ (j : ℕ). bit_at (lanes_below n test + (if test n then 2 ^ n else 0)) j ≡ (if test j then 1 else 0)) (sym last)
-            (high_bit (test n) n (lanes_below n test) (lanes_below-lt n test))
+          (high_bit (test n) n (lanes_below n test) (lanes_below-lt n test))
     ] where
-  low_bit : (b : Bool) (n x k : ℕ) → k < n → bit_at (x + (if b then 2 ^ n else 0)) k ≡ bit_at x k
-  low_bit true n x k less = let form : x + 2 ^ n ≡ 1 * 2 ^ n + x = omega arith in ap (λ (y : ℕ). bit_at y k) form ∙ bit_at_cat_low 1 n x k less
-  low_bit false n x k less = let form : x + 0 ≡ x = omega arith in ap (λ (y : ℕ). bit_at y k) form
+      low_bit : (b : Bool) (n x k : ℕ) → k < n → bit_at (x + (if b then 2 ^ n else 0)) k ≡ bit_at x k
+      low_bit true n x k less = let form : x + 2 ^ n ≡ 1 * 2 ^ n + x = omega arith in ap (λ (y : ℕ). bit_at y k) form ∙ bit_at_cat_low 1 n x k less
+      low_bit false n x k less = let form : x + 0 ≡ x = omega arith in ap (λ (y : ℕ). bit_at y k) form
 
-  high_bit : (b : Bool) (n x : ℕ) → x < 2 ^ n → bit_at (x + (if b then 2 ^ n else 0)) n ≡ (if b then 1 else 0)
-  high_bit true n x below =
-      let form : x + 2 ^ n ≡ 1 * 2 ^ n + x = omega arith in
-      let place : n - n ≡ 0 = omega arith in
-      ap (λ (y : ℕ). bit_at y n) form ∙ bit_at_cat_high 1 n x n below (omega arith) ∙ ap (bit_at 1) place
-  high_bit false n x below = let form : x + 0 ≡ x = omega arith in ap (λ (y : ℕ). bit_at y n) form ∙ bit_at_above x n n below (omega arith)
+      high_bit : (b : Bool) (n x : ℕ) → x < 2 ^ n → bit_at (x + (if b then 2 ^ n else 0)) n ≡ (if b then 1 else 0)
+      high_bit true n x below =
+          let form : x + 2 ^ n ≡ 1 * 2 ^ n + x = omega arith in
+          let place : n - n ≡ 0 = omega arith in
+          ap (λ (y : ℕ). bit_at y n) form ∙ bit_at_cat_high 1 n x n below (omega arith) ∙ ap (bit_at 1) place
+      high_bit false n x below = let form : x + 0 ≡ x = omega arith in ap (λ (y : ℕ). bit_at y n) form ∙ bit_at_above x n n below (omega arith)
 
 pub has_lane-lanes_below : (n : ℕ) (test : ℕ → Bool) (k : ℕ) → k < n → has_lane (lanes_below n test) k ≡ test k
 has_lane-lanes_below n test k below = ap (λ (b : ℕ). nat_eq b 1) (bit_at-lanes_below n test k below) ∙ either (test k) where
@@ -121,8 +121,8 @@ lanes_below-rest mask test rest below others =
     let on = lanes_below 32 (λ lane. has_lane mask lane && test lane) in
     let off = lanes_below 32 (λ lane. has_lane mask lane && rest lane) in
     same_from_bits_below 32 (bit_and mask (bit_not w32 on)) off (lt_of_le_of_lt (and_le_l mask (bit_not w32 on)) below) (lanes_below-lt 32 (λ lane. has_lane mask lane && rest lane))
-      (λ i within.
-        bit_at_and mask (bit_not w32 on) i
-        ∙ ap (λ (b : ℕ). min (bit_at mask i) b) (bit_at_not w32 on i (lanes_below-lt 32 (λ lane. has_lane mask lane && test lane)) within ∙ ap (λ (b : ℕ). 1 - b) (bit_at-lanes_below 32 (λ lane. has_lane mask lane && test lane) i within))
-        ∙ rest_bit (bit_at mask i) (test i) (rest i) (bit_at-lt mask i) (others i)
-        ∙ sym (bit_at-lanes_below 32 (λ lane. has_lane mask lane && rest lane) i within))
+    (λ i within.
+    bit_at_and mask (bit_not w32 on) i
+    ∙ ap (λ (b : ℕ). min (bit_at mask i) b) (bit_at_not w32 on i (lanes_below-lt 32 (λ lane. has_lane mask lane && test lane)) within ∙ ap (λ (b : ℕ). 1 - b) (bit_at-lanes_below 32 (λ lane. has_lane mask lane && test lane) i within))
+    ∙ rest_bit (bit_at mask i) (test i) (rest i) (bit_at-lt mask i) (others i)
+    ∙ sym (bit_at-lanes_below 32 (λ lane. has_lane mask lane && rest lane) i within))
