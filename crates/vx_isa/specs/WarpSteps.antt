@@ -2,7 +2,7 @@
 --
 -- The address of the code, the words of the code, the fields that are in the memory and the answers to the lanes' reads
 -- are given. Read `warp_step` at the end first.
-use Rattle.std.specs.Prelude.{◌≡◌, ℕ, zero, suc, ◌+◌, ◌-◌, ◌/◌, ◌%◌, Bool, not, ◌&&◌, nat_eq, nat_lt, nat_le, if◌then◌else◌, List, [], ◌∷◌, ◌++◌, map, length, slice_get, Option, Some, None, Result, Ok, Err, is_some}
+use Rattle.std.specs.Prelude.{◌≡◌, ℕ, zero, suc, ◌+◌, ◌-◌, ◌/◌, ◌%◌, Bool, true, false, not, ◌&&◌, nat_eq, nat_lt, nat_le, if◌then◌else◌, List, [], ◌∷◌, ◌++◌, map, length, slice_get, Option, Some, None, Result, Ok, Err, is_some}
 use Rattle.vx_base.specs.Bytes.{bytes_of}
 use Rattle.vx_base.specs.declared.types.Size.{Size}
 use Rattle.vx_isa.specs.Effects.{address_at, effect_of}
@@ -255,6 +255,19 @@ fetched_step has ids answers w (Ok i) = instr_step has ids answers w i
 -- `answers k`.
 abbrev pub warp_step : Fields → Ids → List ℕ → (ℕ → ℕ) → WarpState → Stepped
 warp_step has ids code answers w = fetched_step has ids answers w (fetched code w.pc)
+
+-- ---- what a trap leaves
+
+-- whether a step has trapped
+abbrev pub is_trap : Step → Bool
+is_trap (step.Trap fault lane pc) = true
+is_trap outcome = false
+
+-- a warp that stands where it was, with its mask and its stack
+pub record Stays (w w' : WarpState) : Type 0 where
+  pub same_pc : w'.pc ≡ w.pc
+  pub same_mask : w'.mask ≡ w.mask
+  pub same_stack : w'.stack ≡ w.stack
 
 -- ---- on a memory
 

@@ -73,7 +73,7 @@ pub enum Step {
         /// How many warps it waits for.
         count: u32,
     },
-    /// The warp goes on, and the warps 1 to `count` - 1 are to start at the address `pc`.
+    /// The warp goes on, and the warps 1 to `count` - 1 of its core are to start at the address `pc`, as far as the core has them.
     Spawn {
         /// One more than the greatest warp that is to start.
         count: u32,

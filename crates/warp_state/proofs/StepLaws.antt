@@ -3,13 +3,14 @@ use Rattle.std.proofs.Common.{◌≡◌, ℕ, zero, suc, ◌<◌, ◌^◌, ◌++
 use Rattle.vx_isa.specs.Warps.{Registers, WarpState, leader}
 use Rattle.vx_isa.specs.WarpSteps.{Access, LaneAccess, Fields, Stepped, Makes, Takes, effect_in, leads_to, lane_fault, lane_accesses, stop_lane, accesses_below, lanes_stepped, lanes_step}
 use Rattle.vx_isa.specs.declared.instr.Instr.{Instr}
+use Rattle.vx_isa.specs.declared.instr.LaneEffect.{LaneEffect}
 use Rattle.vx_isa.specs.declared.warps.Held.{Held}
 use Rattle.vx_isa.specs.declared.warps.Ids.{Ids}
 use Rattle.vx_isa.specs.declared.warps.MachineTrap.{MachineTrap}
 use Rattle.vx_isa.specs.declared.warps.Step.{Step}
 use Rattle.vx_isa.specs.declared.warps.Step.TheVariants as step
 use Rattle.vx_isa.proofs.MaskLaws.{least_below-found, least_below-none, has_lane-above}
-use Rattle.warp_state.specs.Acts.{HaveActed, HaveStopped, Leaves}
+use Rattle.warp_state.specs.Acts.{HaveActed, HaveStopped, Leaves, effect_at}
 use Rattle.warp_state.specs.declared.lanes.Stop.{Stop}
 
 -- the warp with another stack
@@ -96,3 +97,8 @@ leaves_takes acts stepped left m outcome w' same leaves =
       warp_is = leaves.warp_is ∙ ap (λ (s : Stepped). s.warp) (same answers);
       outcome_is = leaves.outcome_is ∙ ap (λ (s : Stepped). s.outcome) (same answers);
     }
+
+-- what the instruction is to the least active lane
+pub leader_effect : (i : Instr) (w : WarpState) (lane : ℕ) (did : LaneEffect) → lane ≡ leader w.mask → did ≡ effect_at i w.pc (w.registers lane) → did ≡ effect_in i w (leader w.mask)
+unfolding effect_in
+leader_effect i w lane did lane_is did_is = subst (λ (l : ℕ). did ≡ effect_in i w l) lane_is did_is
