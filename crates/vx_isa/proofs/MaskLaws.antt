@@ -2,7 +2,7 @@
 use Rattle.std.proofs.Common.{◌≡◌, ℕ, zero, suc, ◌+◌, ◌-◌, ◌*◌, inl, inr, add-one, mod-eq_of_lt, ◌%◌, ◌^◌, ◌<◌, ◌≤◌, if◌then◌else◌, Bool, true, false, nat_eq, ap, sym, ◌∙◌, subst, arith, refl}
 use Rattle.std.specs.Int.{bit_at, bit_not, w32, trailing_zeros}
 use Rattle.std.proofs.lemmas.Nat.Bits.{bit_at-lt, bit_at_and, bit_at_not, same_from_bits_below, bit_at_above, bit_at_cat_low, bit_at_cat_high, bit_at-trailing_zeros}
-use Rattle.std.proofs.lemmas.Bool.{cases_lt}
+use Rattle.std.proofs.lemmas.Bool.{cases_lt, true≢false}
 use Rattle.std.proofs.lemmas.Nat.{and_le_l, or_comm, or_shifted, pow_below}
 use Rattle.std.specs.Prelude.{bit_and, bit_or, min, not, ◌&&◌}
 use Rattle.std.proofs.Common.{lt_of_le_of_lt}
@@ -126,3 +126,23 @@ lanes_below-rest mask test rest below others =
     ∙ ap (λ (b : ℕ). min (bit_at mask i) b) (bit_at_not w32 on i (lanes_below-lt 32 (λ lane. has_lane mask lane && test lane)) within ∙ ap (λ (b : ℕ). 1 - b) (bit_at-lanes_below 32 (λ lane. has_lane mask lane && test lane) i within))
     ∙ rest_bit (bit_at mask i) (test i) (rest i) (bit_at-lt mask i) (others i)
     ∙ sym (bit_at-lanes_below 32 (λ lane. has_lane mask lane && rest lane) i within))
+
+-- two bits that are 1 together are one bit
+one_bit : (x y : ℕ) → x < 2 → y < 2 → nat_eq x 1 ≡ nat_eq y 1 → x ≡ y
+one_bit zero zero bit bit' same = refl
+one_bit zero (suc zero) bit bit' same = absurd (true≢false (sym same))
+one_bit (suc zero) zero bit bit' same = absurd (true≢false same)
+one_bit (suc zero) (suc zero) bit bit' same = refl
+one_bit (suc (suc x)) y bit bit' same = let none : ⊥ = omega arith in absurd none
+one_bit x (suc (suc y)) bit bit' same = let none : ⊥ = omega arith in absurd none
+
+-- two masks with the same lanes are equal
+pub same_lanes : (a b : ℕ) → a < 2 ^ 32 → b < 2 ^ 32 → ((lane : ℕ) → lane < 32 → has_lane a lane ≡ has_lane b lane) → a ≡ b
+same_lanes a b below below' same =
+    same_from_bits_below 32 a b below below' (λ i within. one_bit (bit_at a i) (bit_at b i) (bit_at-lt a i) (bit_at-lt b i) (same i within))
+
+-- no lane below the least is in the set
+pub leader-least : (mask lane : ℕ) → 0 < mask → mask < 2 ^ 32 → lane < leader mask → has_lane mask lane ≡ false
+leader-least mask lane some below less =
+    let place = bit_at-trailing_zeros w32 mask some below in
+    has_lane-zero mask lane (place.2 lane (subst (λ (l : ℕ). lane < l) (leader-trailing_zeros mask some below) less))

@@ -50,7 +50,7 @@ module _ (w : WarpState) (P : Stepped → Type 0) (most : length w.stack ≤ 64)
   of_join (Restore mask ∷ rest) short = goes step.Next (address_at w.pc 4) mask rest refl (let long : length (Restore mask ∷ rest) ≡ suc (length rest) = refl in omega (arith, long))
   of_join (Else mask pc ∷ rest) short = goes step.Next pc mask rest refl (let long : length (Else mask pc ∷ rest) ≡ suc (length rest) = refl in omega (arith, long))
 
-  of_instr : (has : Fields) (ids : Ids) (answers : ℕ → ℕ) → ((i : Instr) → P (lanes_step has ids i answers w)) → (i : Instr) → P (instr_step has ids answers w i)
+  pub of_instr : (has : Fields) (ids : Ids) (answers : ℕ → ℕ) → ((i : Instr) → P (lanes_step has ids i answers w)) → (i : Instr) → P (instr_step has ids answers w i)
   of_instr has ids answers lanes (Tmc rs1) = of_mask (cut ids.lanes (leader_value w rs1))
   of_instr has ids answers lanes (Wspawn rs1 rs2) = goes (step.Spawn (leader_value w rs1) (leader_value w rs2)) (address_at w.pc 4) w.mask w.stack refl most
   of_instr has ids answers lanes (Split rs1) = of_split (nonzero_lanes w rs1) (zero_lanes w rs1)
@@ -59,7 +59,7 @@ module _ (w : WarpState) (P : Stepped → Type 0) (most : length w.stack ≤ 64)
   of_instr has ids answers lanes (Pred rs1 rs2) = of_mask (pred_mask (nonzero_lanes w rs1) (cut ids.lanes (leader_value w rs2)))
   of_instr has ids answers lanes i = lanes i
 
-  of_fetched : (has : Fields) (ids : Ids) (answers : ℕ → ℕ) → ((i : Instr) → P (lanes_step has ids i answers w)) → (f : Result Instr MachineTrap) → P (fetched_step has ids answers w f)
+  pub of_fetched : (has : Fields) (ids : Ids) (answers : ℕ → ℕ) → ((i : Instr) → P (lanes_step has ids i answers w)) → (f : Result Instr MachineTrap) → P (fetched_step has ids answers w f)
   of_fetched has ids answers lanes (Err fault) = traps fault
   of_fetched has ids answers lanes (Ok i) = of_instr has ids answers lanes i
 

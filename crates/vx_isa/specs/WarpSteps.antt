@@ -1,7 +1,7 @@
 -- One instruction of a warp: what it makes of the warp, which fields of memory its lanes read and write, and how it ends.
 --
--- The address of the code, the words of the code, the fields that are in the memory and the answers to the lanes' reads
--- are given. Read `warp_step` at the end first.
+-- The numbers of the warp, the words of the code, the fields that are in the memory and the answers to the lanes' reads are
+-- given. Read `warp_step` near the end first.
 use Rattle.std.specs.Prelude.{◌≡◌, ℕ, zero, suc, ◌+◌, ◌-◌, ◌/◌, ◌%◌, Bool, true, false, not, ◌&&◌, nat_eq, nat_lt, nat_le, if◌then◌else◌, List, [], ◌∷◌, ◌++◌, map, length, slice_get, Option, Some, None, Result, Ok, Err, is_some}
 use Rattle.vx_base.specs.Bytes.{bytes_of}
 use Rattle.vx_base.specs.declared.types.Size.{Size}
@@ -221,11 +221,12 @@ pred_mask stay saved = if nat_eq stay 0 then saved else stay
 abbrev pub code_start : ℕ
 code_start = 0x80000000
 
--- the instruction at an address
+-- the word at an address, where it is that of a word of the code
 abbrev pub word_at : List ℕ → ℕ → Option ℕ
 word_at code pc =
     if nat_le code_start pc && nat_eq (pc % 4) 0 then slice_get code ((pc - code_start) / 4) else None
 
+-- the instruction that a word is
 abbrev pub read_as : Option Instr → Result Instr MachineTrap
 read_as None = Err trap.Illegal
 read_as (Some i) = Ok i
@@ -234,6 +235,7 @@ abbrev pub decoded : Option ℕ → Result Instr MachineTrap
 decoded None = Err trap.Bus
 decoded (Some word) = read_as (row_of word)
 
+-- the instruction at an address
 unfoldable pub fetched : List ℕ → ℕ → Result Instr MachineTrap
 fetched code pc = decoded (word_at code pc)
 

@@ -255,6 +255,14 @@ fn keeps_what_lower_lanes_did(rt: HostRuntime) {
         (value_at(&warp.lanes, 1, 9), value_at(&warp.lanes, 2, 9)),
         (16, 32)
     );
+    let odd = [
+        0x0070_0313, // addi x6, x0, 7
+        0x0062_a023, // sw x6, 0(x5)
+    ];
+    warp.pc = START;
+    let misaligned = trap(MachineTrap::Misaligned, 1, 4);
+    assert_eq!(rt; run(&mut warp, &odd, &mut memory, 2), misaligned);
+    assert_eq!(rt; (memory.bytes[0], memory.bytes[1]), (7, 0));
     let jumps = [
         0x0012_d313, // srli x6, x5, 1
         0x0013_00e7, // jalr x1, 1(x6)
