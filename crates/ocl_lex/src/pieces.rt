@@ -1,0 +1,141 @@
+//! The pieces of a text: names, numbers, punctuators, and what is none of these.
+ghost use Rattle.std.specs.Prelude.{◌≡◌, ◌+◌, ◌≤◌, ◌<◌, ◌^◌, length};
+ghost use Rattle.std.specs.Prelude.{IfOk, IfSome, Option, drop};
+ghost use Rattle.ocl_lex.specs.Pieces as spec;
+
+use crate::bytes::{begins_name, byte_at, bytes_from, front_of, is_blank, is_decimal, line_len, name_len, number_len};
+use crate::marks::{mark_at, spelling_of};
+use ocl_tokens::Mark;
+use std::alloc::{AllocError, Global};
+use vx_base::Pos;
+
+/// What a piece of a text is.
+#[derive(Clone, Copy, Debug, PartialEq, Eq)]
+pub enum PieceKind {
+    /// A white byte that ends no line, or a comment.
+    Blank,
+    /// The end of a line.
+    Feed,
+    /// A letter or `_`, and then letters, digits and `_`.
+    Name,
+    /// A digit, and then letters, digits, `_` and `.`; perhaps no literal.
+    Number,
+    /// A punctuator.
+    Mark(Mark),
+    /// A `#`.
+    Hash,
+    /// A byte that begins none of the others.
+    Bad,
+    /// A `/*` without a `*/` behind it, with all that follows.
+    OpenComment,
+}
+
+/// What begins at a place.
+#[derive(Clone, Copy, Debug, PartialEq, Eq)]
+pub struct Front {
+    /// What it is.
+    pub kind: PieceKind,
+    /// How many bytes it has.
+    pub len: usize,
+}
+
+/// A piece of a text.
+#[derive(Clone, Copy, Debug, PartialEq, Eq)]
+pub struct Piece {
+    /// What it is.
+    pub kind: PieceKind,
+    /// The byte of the text where it begins, from 0.
+    pub start: u32,
+    /// The byte behind its last.
+    pub end: u32,
+    /// The line and column where it begins.
+    pub pos: Pos,
+}
+
+/// A place in a text.
+#[derive(Clone, Copy, Debug, PartialEq, Eq)]
+pub struct Place {
+    /// How many bytes stand before it.
+    pub at: u32,
+    /// Its line and column.
+    pub pos: Pos,
+}
+
+/// How many bytes there are up to the end of the first `*/`.
+fn closing(bytes: &[u8]) -> Option<usize>
+    ensures value { result ≡ spec.closing bytes.now }
+    ensures within { IfSome result (λ n. n ≤ length bytes.now) }
+{
+    for (place, byte) in bytes.iter().enumerate() {
+        if *byte == b'*' && byte_at(bytes, place + 1) == b'/' {
+            return Some(place + 2);
+        }
+    }
+    None
+}
+
+/// The comment at the front of some bytes that begin with `//` or `/*`.
+fn comment_at(bytes: &[u8]) -> Front
+    ensures { result ≡ spec.comment_at bytes.now }
+{
+    if byte_at(bytes, 1) == b'/' {
+        return Front {
+            kind: PieceKind::Blank,
+            len: line_len(bytes),
+        };
+    }
+    match closing(bytes_from(bytes, 2)) {
+        Some(len) => Front {
+            kind: PieceKind::Blank,
+            len: len + 2,
+        },
+        None => Front {
+            kind: PieceKind::OpenComment,
+            len: bytes.len(),
+        },
+    }
+}
+
+fn begins_comment(bytes: &[u8]) -> bool
+    ensures { result ≡ spec.begins_comment bytes.now }
+{
+    if byte_at(bytes, 0) != b'/' {
+        return false;
+    }
+    let second = byte_at(bytes, 1);
+    second == b'/' || second == b'*'
+}
+
+/// The punctuator or bad byte at the front of some bytes.
+fn marked(bytes: &[u8]) -> Front
+    ensures { result ≡ spec.marked (spec.mark_at bytes.now) }
+{
+    match mark_at(bytes) {
+        Some(mark) => Front {
+            kind: PieceKind::Mark(mark),
+            len: spelling_of(mark).len(),
+        },
+        None => Front {
+            kind: PieceKind::Bad,
+            len: 1,
+        },
+    }
+}
+
+/// What begins at the front of some bytes, of which there is at least one.
+#[tactic(auto, unfolding(crate::specs::Pieces::begins))]
+fn begins(bytes: &[u8]) -> Front
+    ensures { result ≡ spec.begins bytes.now }
+{
+    let first = byte_at(bytes, 0);
+    let (kind, len) = match first {
+        b'\n' => (PieceKind::Feed, 1),
+        _ if is_blank(first) => (PieceKind::Blank, 1),
+        _ if begins_name(first) => (PieceKind::Name, name_len(bytes)),
+        _ if is_decimal(first) => (PieceKind::Number, number_len(bytes)),
+        b'#' => (PieceKind::Hash, 1),
+        _ if begins_comment(bytes) => return comment_at(bytes),
+        _ => return marked(bytes),
+    };
+    Front { kind, len }
+}
