@@ -15,10 +15,14 @@ use Rattle.ocl_lex.specs.Marks.{spelling_of, mark_at}
 abbrev pub front : PieceKind → ℕ → Front
 front k n = record { kind = k; len = n }
 
+-- whether some bytes begin with `*/`
+abbrev pub closes : List ℕ → Bool
+closes bytes = slice_index bytes 0 == 42 && slice_index bytes 1 == 47
+
 -- how many bytes there are up to the end of the first `*/`
 unfoldable pub closing : List ℕ → Option ℕ
 closing [] = None
-closing (c ∷ rest) = if c == 42 && slice_index rest 0 == 47 then Some 2 else option_map (λ n. n + 1) (closing rest)
+closing (c ∷ rest) = if closes (c ∷ rest) then Some 2 else option_map (λ n. n + 1) (closing rest)
 
 abbrev pub comment_of : ℕ → Option ℕ → Front
 comment_of left None = front kind.OpenComment left

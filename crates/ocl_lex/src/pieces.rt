@@ -1,6 +1,7 @@
 //! The pieces of a text: names, numbers, punctuators, and what is none of these.
 ghost use Rattle.std.specs.Prelude.{◌≡◌, ◌+◌, ◌≤◌, ◌<◌, ◌^◌, length};
 ghost use Rattle.std.specs.Prelude.{IfOk, IfSome, Option, drop};
+ghost use Rattle.ocl_lex.specs.Marks as marks;
 ghost use Rattle.ocl_lex.specs.Pieces as spec;
 
 use crate::bytes::{begins_name, byte_at, bytes_from, front_of, is_blank, is_decimal, line_len, name_len, number_len};
@@ -61,13 +62,20 @@ pub struct Place {
     pub pos: Pos,
 }
 
+/// Whether some bytes begin with `*/`.
+fn closes(bytes: &[u8]) -> bool
+    ensures { result ≡ spec.closes bytes.now }
+{
+    byte_at(bytes, 0) == b'*' && byte_at(bytes, 1) == b'/'
+}
+
 /// How many bytes there are up to the end of the first `*/`.
 fn closing(bytes: &[u8]) -> Option<usize>
     ensures value { result ≡ spec.closing bytes.now }
     ensures within { IfSome result (λ n. n ≤ length bytes.now) }
 {
-    for (place, byte) in bytes.iter().enumerate() {
-        if *byte == b'*' && byte_at(bytes, place + 1) == b'/' {
+    for place in 0..bytes.len() {
+        if closes(bytes_from(bytes, place)) {
             return Some(place + 2);
         }
     }
@@ -108,7 +116,7 @@ fn begins_comment(bytes: &[u8]) -> bool
 
 /// The punctuator or bad byte at the front of some bytes.
 fn marked(bytes: &[u8]) -> Front
-    ensures { result ≡ spec.marked (spec.mark_at bytes.now) }
+    ensures { result ≡ spec.marked (marks.mark_at bytes.now) }
 {
     match mark_at(bytes) {
         Some(mark) => Front {
@@ -122,20 +130,26 @@ fn marked(bytes: &[u8]) -> Front
     }
 }
 
-/// What begins at the front of some bytes, of which there is at least one.
+/// What begins at the front of some bytes.
 #[tactic(auto, unfolding(crate::specs::Pieces::begins))]
 fn begins(bytes: &[u8]) -> Front
     ensures { result ≡ spec.begins bytes.now }
 {
     let first = byte_at(bytes, 0);
-    let (kind, len) = match first {
-        b'\n' => (PieceKind::Feed, 1),
-        _ if is_blank(first) => (PieceKind::Blank, 1),
-        _ if begins_name(first) => (PieceKind::Name, name_len(bytes)),
-        _ if is_decimal(first) => (PieceKind::Number, number_len(bytes)),
-        b'#' => (PieceKind::Hash, 1),
-        _ if begins_comment(bytes) => return comment_at(bytes),
-        _ => return marked(bytes),
-    };
-    Front { kind, len }
+    if first == b'\n' {
+        return Front { kind: PieceKind::Feed, len: 1 };
+    }
+    if is_blank(first) {
+        return Front { kind: PieceKind::Blank, len: 1 };
+    }
+    if begins_name(first) {
+        return Front { kind: PieceKind::Name, len: name_len(bytes) };
+    }
+    if is_decimal(first) {
+        return Front { kind: PieceKind::Number, len: number_len(bytes) };
+    }
+    if first == b'#' {
+        return Front { kind: PieceKind::Hash, len: 1 };
+    }
+    if begins_comment(bytes) { comment_at(bytes) } else { marked(bytes) }
 }
