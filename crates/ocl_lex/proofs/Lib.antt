@@ -1,2 +1,4 @@
 pub mod Prefixes
 pub mod Comments
+pub mod Cuts
+pub mod Walk

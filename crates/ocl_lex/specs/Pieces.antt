@@ -1,5 +1,5 @@
 -- How a text falls into pieces: at each place that no earlier piece covers begins the longest piece of its kind.
-use Rattle.std.specs.Prelude.{ℕ, zero, suc, ◌+◌, ◌-◌, ◌==◌, Bool, true, false, not, ◌&&◌, ◌||◌, if◌then◌else◌, List, [], ◌∷◌, length, take, drop, slice_index, filter, Option, None, Some}
+use Rattle.std.specs.Prelude.{ℕ, zero, suc, ◌+◌, ◌-◌, ◌==◌, ◌≤◌, Bool, true, false, not, ◌&&◌, ◌||◌, if◌then◌else◌, List, [], ◌∷◌, length, take, drop, slice_index, filter, Option, None, Some}
 use Rattle.std.specs.List.{prefix_len}
 use Rattle.std.specs.Option.{option_map}
 use Rattle.vx_base.specs.declared.types.Pos.{Pos}
@@ -61,6 +61,11 @@ after c p =
 
 abbrev pub first_place : Place
 first_place = record { at = 0; pos = record { line = 1; col = 1 } }
+
+-- what keeps the numbers of a place small
+pub record IsNear (p : Place) : Type 0 where
+  pub line : p.pos.line ≤ p.at + 1
+  pub col : p.pos.col ≤ p.at + 1
 
 abbrev pub piece_at : Place → Front → Piece
 piece_at p f = record { kind = f.kind; start = p.at; end = p.at + f.len; pos = p.pos }

@@ -105,7 +105,8 @@ pub fn spelling_of(mark: Mark) -> &'static [u8]
 /// The longest punctuator at the front of some bytes.
 #[tactic(auto, unfolding(crate::specs::Marks::mark_at))]
 pub fn mark_at(bytes: &[u8]) -> Option<Mark>
-    ensures { result ≡ spec.mark_at bytes.now }
+    ensures value { result ≡ spec.mark_at bytes.now }
+    ensures within { IfSome result (λ m. length (spec.spelling_of m) ≤ length bytes.now) }
 {
     ALL.iter()
         .copied()

@@ -1,10 +1,12 @@
 //! The pieces of a text: names, numbers, punctuators, and what is none of these.
-ghost use Rattle.std.specs.Prelude.{◌≡◌, ◌+◌, ◌≤◌, ◌<◌, ◌^◌, length};
-ghost use Rattle.std.specs.Prelude.{IfOk, IfSome, Option, drop};
+ghost use Rattle.std.specs.Prelude.{◌≡◌, ◌++◌, ◌∷◌, [], ◌≤◌, ◌<◌, ◌^◌, length, IfOk, IfSome, OnOk};
 ghost use Rattle.ocl_lex.specs.Marks as marks;
+ghost use Rattle.ocl_lex.specs.Cutting.{Passes};
 ghost use Rattle.ocl_lex.specs.Pieces as spec;
 
-use crate::bytes::{begins_name, byte_at, bytes_from, front_of, is_blank, is_decimal, line_len, name_len, number_len};
+use crate::bytes::{
+    begins_name, byte_at, bytes_from, is_blank, is_decimal, line_len, name_len, number_len,
+};
 use crate::marks::{mark_at, spelling_of};
 use ocl_tokens::Mark;
 use std::alloc::{AllocError, Global};
@@ -73,6 +75,7 @@ fn closes(bytes: &[u8]) -> bool
 fn closing(bytes: &[u8]) -> Option<usize>
     ensures value { result ≡ spec.closing bytes.now }
     ensures within { IfSome result (λ n. n ≤ length bytes.now) }
+    ensures least { IfSome result (λ n. 2 ≤ n) }
 {
     for place in 0..bytes.len() {
         if closes(bytes_from(bytes, place)) {
@@ -84,7 +87,8 @@ fn closing(bytes: &[u8]) -> Option<usize>
 
 /// The comment at the front of some bytes that begin with `//` or `/*`.
 fn comment_at(bytes: &[u8]) -> Front
-    ensures { result ≡ spec.comment_at bytes.now }
+    ensures value { result ≡ spec.comment_at bytes.now }
+    ensures within { result.len ≤ length bytes.now }
 {
     if byte_at(bytes, 1) == b'/' {
         return Front {
@@ -116,7 +120,9 @@ fn begins_comment(bytes: &[u8]) -> bool
 
 /// The punctuator or bad byte at the front of some bytes.
 fn marked(bytes: &[u8]) -> Front
-    ensures { result ≡ spec.marked (marks.mark_at bytes.now) }
+    requires { 0 < length bytes.now }
+    ensures value { result ≡ spec.marked (marks.mark_at bytes.now) }
+    ensures within { result.len ≤ length bytes.now }
 {
     match mark_at(bytes) {
         Some(mark) => Front {
@@ -133,23 +139,138 @@ fn marked(bytes: &[u8]) -> Front
 /// What begins at the front of some bytes.
 #[tactic(auto, unfolding(crate::specs::Pieces::begins))]
 fn begins(bytes: &[u8]) -> Front
-    ensures { result ≡ spec.begins bytes.now }
+    requires { 0 < length bytes.now }
+    ensures value { result ≡ spec.begins bytes.now }
+    ensures within { result.len ≤ length bytes.now }
 {
     let first = byte_at(bytes, 0);
     if first == b'\n' {
-        return Front { kind: PieceKind::Feed, len: 1 };
+        return Front {
+            kind: PieceKind::Feed,
+            len: 1,
+        };
     }
     if is_blank(first) {
-        return Front { kind: PieceKind::Blank, len: 1 };
+        return Front {
+            kind: PieceKind::Blank,
+            len: 1,
+        };
     }
     if begins_name(first) {
-        return Front { kind: PieceKind::Name, len: name_len(bytes) };
+        return Front {
+            kind: PieceKind::Name,
+            len: name_len(bytes),
+        };
     }
     if is_decimal(first) {
-        return Front { kind: PieceKind::Number, len: number_len(bytes) };
+        return Front {
+            kind: PieceKind::Number,
+            len: number_len(bytes),
+        };
     }
     if first == b'#' {
-        return Front { kind: PieceKind::Hash, len: 1 };
+        return Front {
+            kind: PieceKind::Hash,
+            len: 1,
+        };
     }
-    if begins_comment(bytes) { comment_at(bytes) } else { marked(bytes) }
+    if begins_comment(bytes) {
+        comment_at(bytes)
+    } else {
+        marked(bytes)
+    }
+}
+
+impl Place {
+    /// The place where a text begins.
+    const FIRST: Place = Place {
+        at: 0,
+        pos: Pos { line: 1, col: 1 },
+    };
+
+    /// The place behind a byte.
+    fn after(self, byte: u8) -> Place
+        requires near { spec.IsNear self }
+        requires room { self.at < 2 ^ 24 }
+        ensures value { result ≡ spec.after byte self }
+        ensures near { spec.IsNear result }
+    {
+        let at = self.at + 1;
+        if byte == b'\n' {
+            return Place {
+                at,
+                pos: Pos {
+                    line: self.pos.line + 1,
+                    col: 1,
+                },
+            };
+        }
+        Place {
+            at,
+            pos: Pos {
+                line: self.pos.line,
+                col: self.pos.col + 1,
+            },
+        }
+    }
+}
+
+/// Whether a kind of piece says something: all but blanks and comments do.
+fn is_shown(kind: PieceKind) -> bool
+    ensures { result ≡ spec.is_shown kind }
+{
+    !matches!(kind, PieceKind::Blank)
+}
+
+/// Adds what begins at a place to some pieces, unless it is a blank.
+fn begin(pieces: &mut Vec<Piece>, place: Place, front: Front) -> Result<(), AllocError>
+    requires at { place.at ≤ 2 ^ 24 }
+    requires len { front.len ≤ 2 ^ 24 }
+    ensures { OnOk result (pieces.new.items ≡ pieces.old.items ++ spec.shown_pieces (spec.piece_at place front ∷ [])) }
+{
+    if !is_shown(front.kind) {
+        return Ok(());
+    }
+    pieces.push(Piece {
+        kind: front.kind,
+        start: place.at,
+        end: place.at + front.len as u32,
+        pos: place.pos,
+    })?;
+    Ok(())
+}
+
+/// Goes on by the first of some bytes, and answers how many of the others are covered by a piece that has begun.
+fn pass(
+    pieces: &mut Vec<Piece>,
+    covered: usize,
+    place: Place,
+    bytes: &[u8],
+) -> Result<usize, AllocError>
+    requires some { 0 < length bytes.now }
+    requires at { place.at ≤ 2 ^ 24 }
+    requires len { length bytes.now ≤ 2 ^ 24 }
+    ensures { IfOk result (λ left. Passes covered place bytes.now pieces.old.items left pieces.new.items) }
+{
+    if covered > 0 {
+        return Ok(covered - 1);
+    }
+    let front = begins(bytes);
+    begin(pieces, place, front)?;
+    Ok(front.len.saturating_sub(1))
+}
+
+/// The pieces of a text, without blanks and comments.
+pub fn pieces_of(alloc: Global, text: &[u8]) -> Result<Vec<Piece>, AllocError>
+    requires { length text.now ≤ 1048576 }
+    ensures { IfOk result (λ pieces. pieces.items ≡ spec.pieces_of text.now) }
+{
+    let mut pieces = Vec::new(alloc);
+    let mut place = Place::FIRST;
+    let mut covered = 0;
+    for (at, byte) in text.iter().enumerate() {
+        covered = pass(&mut pieces, covered, place, bytes_from(text, at))?;
+        place = place.after(*byte);
+    }
+    Ok(pieces)
 }
