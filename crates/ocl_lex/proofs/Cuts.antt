@@ -33,13 +33,13 @@ passes_begins covered p (c ∷ rest) before f left now none more front adds len 
     let more : List Piece = cuts (f.len - 1) (after c p) rest in
     let one : cuts 0 p (c ∷ rest) ≡ piece_at p f ∷ cuts (f.len - 1) (after c p) rest = rw front (begins_one p c rest) in
     let two : shown_pieces (piece_at p f ∷ cuts (f.len - 1) (after c p) rest) ≡ shown_pieces (piece_at p f ∷ []) ++ shown_pieces (cuts (f.len - 1) (after c p) rest) =
-        filter-append (λ (q : Piece). is_shown q.kind) (piece_at p f ∷ []) (cuts (f.len - 1) (after c p) rest) in
+    filter-append (λ (q : Piece). is_shown q.kind) (piece_at p f ∷ []) (cuts (f.len - 1) (after c p) rest) in
     let three : before ++ shown_pieces (cuts 0 p (c ∷ rest)) ≡ before ++ (shown_pieces (piece_at p f ∷ []) ++ shown_pieces (cuts (f.len - 1) (after c p) rest)) =
-        ap (λ l. before ++ shown_pieces l) one ∙ ap (λ l. before ++ l) two in
+    ap (λ l. before ++ shown_pieces l) one ∙ ap (λ l. before ++ l) two in
     let four : before ++ shown_pieces (cuts covered p (c ∷ rest)) ≡ before ++ shown_pieces (cuts 0 p (c ∷ rest)) = ap (λ k. before ++ shown_pieces (cuts k p (c ∷ rest))) here in
     let five : now ++ shown_pieces (cuts left (after c p) rest) ≡ before ++ (shown_pieces (piece_at p f ∷ []) ++ shown_pieces (cuts (f.len - 1) (after c p) rest)) =
-        ap (λ l. now ++ shown_pieces (cuts l (after c p) rest)) len ∙ ap (λ l. l ++ shown_pieces (cuts (f.len - 1) (after c p) rest)) adds
-        ∙ append_assoc before (shown_pieces (piece_at p f ∷ [])) (shown_pieces (cuts (f.len - 1) (after c p) rest)) in
+    ap (λ l. now ++ shown_pieces (cuts l (after c p) rest)) len ∙ ap (λ l. l ++ shown_pieces (cuts (f.len - 1) (after c p) rest)) adds
+    ∙ append_assoc before (shown_pieces (piece_at p f ∷ [])) (shown_pieces (cuts (f.len - 1) (after c p) rest)) in
     four ∙ three ∙ sym five
 
 pub passes_on : (text : List ℕ) (i : ℕ) (total before now : List Piece) (covered left : ℕ) (p : Place) (b : ℕ) → i < length text → b ≡ slice_index text i

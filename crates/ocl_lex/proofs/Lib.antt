@@ -2,3 +2,4 @@ pub mod Prefixes
 pub mod Comments
 pub mod Cuts
 pub mod Walk
+pub mod Digits

@@ -2,5 +2,8 @@
 #![tactic(auto)]
 
 pub mod bytes;
+pub mod faults;
+pub mod literals;
 pub mod marks;
 pub mod pieces;
+pub mod words;
