@@ -3,4 +3,8 @@ pub mod Marks
 pub mod Words
 pub mod Literals
 pub mod Pieces
+pub mod Parts
+pub mod Events
+pub mod Macros
+pub mod Lines
 pub mod Cutting

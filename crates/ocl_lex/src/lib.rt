@@ -2,8 +2,12 @@
 #![tactic(auto)]
 
 pub mod bytes;
+pub mod conditions;
+pub mod directives;
 pub mod faults;
 pub mod literals;
 pub mod marks;
+pub mod parts;
 pub mod pieces;
+pub mod predefined;
 pub mod words;
