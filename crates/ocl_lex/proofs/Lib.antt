@@ -3,3 +3,4 @@ pub mod Comments
 pub mod Cuts
 pub mod Walk
 pub mod Digits
+pub mod WorkedTokens
