@@ -7,4 +7,5 @@ pub mod Parts
 pub mod Events
 pub mod Macros
 pub mod Lines
+pub mod Tables
 pub mod Cutting

@@ -6,6 +6,7 @@ pub mod conditions;
 pub mod directives;
 pub mod faults;
 pub mod literals;
+pub mod macros;
 pub mod marks;
 pub mod parts;
 pub mod pieces;
