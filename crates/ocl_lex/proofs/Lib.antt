@@ -5,4 +5,7 @@ pub mod Walk
 pub mod Digits
 pub mod TableLaws
 pub mod PredefinedLaws
+pub mod TellingLaws
+pub mod ReplacedLaws
+pub mod FrameLaws
 pub mod WorkedTokens

@@ -11,7 +11,7 @@ pub defines_next : (i : ℕ) (before after : Macros) (d : Predefined) → i < 17
     → after ≡ with_predefined before (get_or all_predefined i d) → after ≡ fold with_predefined [] (take (i + 1) all_predefined)
 defines_next i before after d within so_far adds =
     let one : fold with_predefined [] (take (i + 1) all_predefined) ≡ with_predefined (fold with_predefined [] (take i all_predefined)) (get_or all_predefined i d) =
-        fold_more with_predefined [] all_predefined i d within in
+    fold_more with_predefined [] all_predefined i d within in
     adds ∙ ap (λ ms. with_predefined ms (get_or all_predefined i d)) so_far ∙ sym one
 
 pub defines_all : (i : ℕ) (now : Macros) → 17 ≤ i → now ≡ fold with_predefined [] (take i all_predefined) → now ≡ predefined_macros

@@ -8,4 +8,6 @@ pub mod Events
 pub mod Macros
 pub mod Lines
 pub mod Tables
+pub mod Telling
+pub mod Frames
 pub mod Cutting

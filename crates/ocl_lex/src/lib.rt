@@ -8,6 +8,7 @@ pub mod faults;
 pub mod literals;
 pub mod macros;
 pub mod marks;
+pub mod output;
 pub mod parts;
 pub mod pieces;
 pub mod predefined;
