@@ -8,4 +8,5 @@ pub mod PredefinedLaws
 pub mod TellingLaws
 pub mod ReplacedLaws
 pub mod FrameLaws
+pub mod StepLaws
 pub mod WorkedTokens

@@ -67,12 +67,12 @@ enough text (suc n) zero macros made at p below_n below_k =
 enough text (suc n) (suc k) macros made at p below_n below_k = by_option (found text macros p)
     (λ none. step_plain text (suc n) macros made at p none ∙ sym (step_plain text (suc k) macros made at p none))
     (λ body some.
-      let less : length (without (name_of text p) macros) < length macros = shorter (name_of text p) macros body (found_name text macros p body some) in
-      let in_n : length (without (name_of text p) macros) ≤ n = omega arith in
-      let in_k : length (without (name_of text p) macros) ≤ k = omega arith in
-      let same : shows text n (without (name_of text p) macros) true at ≡ shows text k (without (name_of text p) macros) true at =
-          fun_ext (λ q. enough text n k (without (name_of text p) macros) true at q in_n in_k) in
-      step_found text n macros made at p body some ∙ ap (λ g. Use at.pos ∷ flat_map g body) same ∙ sym (step_found text k macros made at p body some))
+    let less : length (without (name_of text p) macros) < length macros = shorter (name_of text p) macros body (found_name text macros p body some) in
+    let in_n : length (without (name_of text p) macros) ≤ n = omega arith in
+    let in_k : length (without (name_of text p) macros) ≤ k = omega arith in
+    let same : shows text n (without (name_of text p) macros) true at ≡ shows text k (without (name_of text p) macros) true at =
+    fun_ext (λ q. enough text n k (without (name_of text p) macros) true at q in_n in_k) in
+    step_found text n macros made at p body some ∙ ap (λ g. Use at.pos ∷ flat_map g body) same ∙ sym (step_found text k macros made at p body some))
 
 pub replaced_plain : (text : List ℕ) (macros : Macros) (made : Bool) (at : Piece) (p : Part) → found text macros p ≡ None
     → replaced text macros made at p ≡ Show (token_at text made at p) ∷ []
@@ -84,5 +84,5 @@ replaced_found text macros made at p body some =
     let less : length (without (name_of text p) macros) < length macros = shorter (name_of text p) macros body (found_name text macros p body some) in
     let one : shows text (length macros) macros made at p ≡ shows text (suc (length macros)) macros made at p = enough text (length macros) (suc (length macros)) macros made at p (omega arith) (omega arith) in
     let same : shows text (length macros) (without (name_of text p) macros) true at ≡ replaced text (without (name_of text p) macros) true at =
-        fun_ext (λ q. enough text (length macros) (length (without (name_of text p) macros)) (without (name_of text p) macros) true at q (omega arith) (omega arith)) in
+    fun_ext (λ q. enough text (length macros) (length (without (name_of text p) macros)) (without (name_of text p) macros) true at q (omega arith) (omega arith)) in
     one ∙ step_found text (length macros) macros made at p body some ∙ ap (λ g. Use at.pos ∷ flat_map g body) same

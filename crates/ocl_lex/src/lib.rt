@@ -12,4 +12,5 @@ pub mod output;
 pub mod parts;
 pub mod pieces;
 pub mod predefined;
+pub mod replacing;
 pub mod words;
