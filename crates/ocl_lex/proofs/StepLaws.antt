@@ -1,6 +1,6 @@
 -- A part of a replacement, told.
 use Rattle.std.proofs.Common.{◌≡◌, ℕ, ◌⊎◌, inl, inr, Bool, true, false, List, [], ◌∷◌, ◌++◌, Option, Some, None, Result, Ok, Err, refl, sym, ap, subst, ◌∙◌, append_assoc}
-use Rattle.std.specs.Prelude.{OnOk}
+use Rattle.std.specs.Prelude.{OnOk, IsErrAnd}
 use Rattle.std.specs.Borrow.{Bor}
 use Rattle.ocl_lex.specs.declared.faults.LexFault.{LexFault}
 use Rattle.ocl_lex.specs.declared.faults.LexFault.TheVariants as fault
@@ -50,3 +50,17 @@ steps_show r text at macros old new frames p none tells =
     let one : replaced text (seen macros frames) true at p ++ pending text at macros frames ≡ Show (token_at text true at p) ∷ pending text at macros frames =
     ap (λ l. l ++ pending text at macros frames) (replaced_plain text (seen macros frames) true at p none) in
     tells_first r old new (Show (token_at text true at p)) _ (pending text at macros frames) _ one (same_on_ok r (pending text at macros frames)) tells
+
+-- a fault that is passed on
+pub passes_fault : {T : Type 0} (r : Result T LexFault) (f : LexFault) (old new : Output) (before first now : List Event) → IsErrAnd r (λ e. e ≡ f) → before ≡ first
+    → (f ≡ fault.Memory) ⊎ ((more : List Event) → answer old (first ++ more) ≡ Err f) → TellsInFront r old before new now
+passes_fault (Ok x) f old new before first now passed same stops = absurd passed
+passes_fault (Err e) f old new before first now passed same (inl memory) = inl (passed ∙ memory)
+passes_fault (Err e) f old new before first now passed same (inr stops) = inr (λ more. ap (λ l. answer old (l ++ more)) same ∙ stops more ∙ ap Err (sym passed))
+
+pub passes_later : {T : Type 0} (r : Result T LexFault) (f : LexFault) (old middle new : Output) (whole part : List Event) → IsErrAnd r (λ e. e ≡ f)
+    → ((more : List Event) → answer middle (part ++ more) ≡ answer old (whole ++ more))
+    → (f ≡ fault.Memory) ⊎ ((more : List Event) → answer middle (part ++ more) ≡ Err f) → Tells r old new whole
+passes_later (Ok x) f old middle new whole part passed so_far stops = absurd passed
+passes_later (Err e) f old middle new whole part passed so_far (inl memory) = inl (passed ∙ memory)
+passes_later (Err e) f old middle new whole part passed so_far (inr stops) = inr (λ more. sym (so_far more) ∙ stops more ∙ ap Err (sym passed))
