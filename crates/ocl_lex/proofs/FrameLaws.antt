@@ -76,7 +76,7 @@ seen_open name macros (f ∷ frames) open_there = by_test (bytes_eq name f.0.now
     (λ t. seen_open name (without f.0.now macros) frames (rw t at open_there))
 
 -- the same of a part that is a name
-found_named : (text : List ℕ) (macros : Macros) (p : Part) (start end : ℕ) (name : List ℕ) → p ≡ part.Name start end → name ≡ between text start end
+pub found_named : (text : List ℕ) (macros : Macros) (p : Part) (start end : ℕ) (name : List ℕ) → p ≡ part.Name start end → name ≡ between text start end
     → found text macros p ≡ replacement_of name macros
 found_named text macros p start end name is spelled = ap (found text macros) is ∙ ap (λ n. replacement_of n macros) (sym spelled)
 

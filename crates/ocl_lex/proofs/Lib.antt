@@ -9,4 +9,5 @@ pub mod TellingLaws
 pub mod ReplacedLaws
 pub mod FrameLaws
 pub mod StepLaws
+pub mod ShowLaws
 pub mod WorkedTokens

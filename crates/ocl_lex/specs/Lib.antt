@@ -10,4 +10,5 @@ pub mod Lines
 pub mod Tables
 pub mod Telling
 pub mod Frames
+pub mod Doing
 pub mod Cutting

@@ -3,6 +3,7 @@
 
 pub mod bytes;
 pub mod conditions;
+pub mod context;
 pub mod directives;
 pub mod faults;
 pub mod literals;
@@ -13,4 +14,5 @@ pub mod parts;
 pub mod pieces;
 pub mod predefined;
 pub mod replacing;
+pub mod showing;
 pub mod words;

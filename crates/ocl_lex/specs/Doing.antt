@@ -1,0 +1,38 @@
+-- What the steps of reading lines promise.
+use Rattle.std.specs.Prelude.{◌≡◌, ℕ, ◌⊎◌, List, [], ◌∷◌, ◌++◌, reverse, Result, Ok, Err, MatchResult}
+use Rattle.ocl_lex.specs.declared.conditions.Condition.{Condition}
+use Rattle.ocl_lex.specs.declared.context.Context.{Context}
+use Rattle.ocl_lex.specs.declared.faults.LexFault.{LexFault}
+use Rattle.ocl_lex.specs.declared.faults.LexFault.TheVariants as fault
+use Rattle.ocl_lex.specs.declared.output.Output.{Output}
+use Rattle.ocl_lex.specs.Events.{Event, Stop}
+use Rattle.ocl_lex.specs.Lines.{Effect, State}
+use Rattle.ocl_lex.specs.Telling.{answer}
+
+-- events that are faults alone: there are none, or the first one is the answer
+abbrev pub Raises : {T : Type 0} → Result T LexFault → List Event → Type 0
+Raises result events = MatchResult result
+    (λ _. events ≡ [])
+    (λ f. (rest : List Event) × (events ≡ Stop f ∷ rest))
+
+-- the same, where memory may run out
+abbrev pub RaisesOrFull : {T : Type 0} → Result T LexFault → List Event → Type 0
+RaisesOrFull result events = MatchResult result
+    (λ _. events ≡ [])
+    (λ f. (f ≡ fault.Memory) ⊎ ((rest : List Event) × (events ≡ Stop f ∷ rest)))
+
+-- the macros and the conditions, the innermost first
+abbrev pub state_of : Context → State
+state_of c = record { macros = c.macros; conditions = reverse c.conditions.items }
+
+-- what a line without tokens does
+abbrev pub Silently : {T : Type 0} → Result T LexFault → Effect → State → Type 0
+Silently result e now = MatchResult result
+    (λ _. (e.events ≡ []) × (e.next ≡ now))
+    (λ f. (f ≡ fault.Memory) ⊎ ((rest : List Event) × (e.events ≡ Stop f ∷ rest)))
+
+-- what a line does
+abbrev pub Does : {T : Type 0} → Result T LexFault → Output → Effect → Output → State → Type 0
+Does result old e new now = MatchResult result
+    (λ _. (e.next ≡ now) × ((more : List Event) → answer new more ≡ answer old (e.events ++ more)))
+    (λ f. (f ≡ fault.Memory) ⊎ ((more : List Event) → answer old (e.events ++ more) ≡ Err f))
