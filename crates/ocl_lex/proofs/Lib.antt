@@ -10,4 +10,5 @@ pub mod ReplacedLaws
 pub mod FrameLaws
 pub mod StepLaws
 pub mod ShowLaws
+pub mod OperandLaws
 pub mod WorkedTokens

@@ -9,6 +9,7 @@ pub mod faults;
 pub mod literals;
 pub mod macros;
 pub mod marks;
+pub mod operands;
 pub mod output;
 pub mod parts;
 pub mod pieces;
