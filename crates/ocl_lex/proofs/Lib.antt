@@ -11,4 +11,5 @@ pub mod FrameLaws
 pub mod StepLaws
 pub mod ShowLaws
 pub mod OperandLaws
+pub mod DoingLaws
 pub mod WorkedTokens
