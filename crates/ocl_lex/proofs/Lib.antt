@@ -12,4 +12,5 @@ pub mod StepLaws
 pub mod ShowLaws
 pub mod OperandLaws
 pub mod DoingLaws
+pub mod LineLaws
 pub mod WorkedTokens

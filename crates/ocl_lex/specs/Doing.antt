@@ -11,7 +11,7 @@ use Rattle.ocl_lex.specs.declared.output.Output.{Output}
 use Rattle.ocl_lex.specs.declared.parts.Part.{Part}
 use Rattle.ocl_lex.specs.declared.pieces.Piece.{Piece}
 use Rattle.ocl_lex.specs.Events.{Event, Stop}
-use Rattle.ocl_lex.specs.Lines.{Effect, State, faults_of, one_name, parts_of}
+use Rattle.ocl_lex.specs.Lines.{Effect, State, end_token, ends, events, faults_of, one_name, parts_of}
 use Rattle.ocl_lex.specs.Telling.{answer}
 
 -- events that are faults alone: there are none, or the first one is the answer
@@ -53,3 +53,9 @@ abbrev pub ReadsParts : Result (Vec Part Global) LexFault → List ℕ → List 
 ReadsParts result text pieces = MatchResult result
     (λ parts. (faults_of text pieces ≡ []) × (parts.items ≡ parts_of text pieces))
     (λ f. (f ≡ fault.Memory) ⊎ ((rest : List Event) × (faults_of text pieces ≡ Stop f ∷ rest)))
+
+-- the lines of a text are read: what is still to come is its end
+abbrev pub ReadsLines : {T : Type 0} → Result T LexFault → List ℕ → List (List Piece) → State → Output → State → Output → Type 0
+ReadsLines result text rest state old now new = MatchResult result
+    (λ _. answer new (ends (end_token text) now.conditions) ≡ answer old (events text state rest))
+    (λ f. (f ≡ fault.Memory) ⊎ (answer old (events text state rest) ≡ Err f))

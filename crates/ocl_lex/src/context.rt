@@ -4,7 +4,7 @@ ghost use Rattle.ocl_lex.specs.Doing.{Silently, state_of};
 ghost use Rattle.ocl_lex.specs.Lines as spec;
 
 use crate::conditions::Condition;
-use crate::directives::DirectiveWord;
+use crate::directives::{DirectiveWord, directive_named};
 use crate::faults::LexFault;
 use crate::macros::Macros;
 use crate::operands::{is_name, name_alone, nothing_behind, opens_parameters, parts_of, unwanted};
@@ -164,6 +164,28 @@ impl Context {
             DirectiveWord::Define | DirectiveWord::Undef | DirectiveWord::Pragma => skip_pieces(
                 pieces,
             ),
+        }
+    }
+
+    /// Does what a line says behind its `#`.
+    pub fn directive_line(
+        &mut self,
+        alloc: Global,
+        text: &[u8],
+        hash: Piece,
+        pieces: &[Piece],
+    ) -> Result<(), LexFault>
+        ensures { Silently result (spec.directive_line text.now hash pieces.now (state_of self.old)) (state_of self.new) }
+    {
+        let Some((word, rest)) = pieces.split_first() else {
+            return Ok(());
+        };
+        if !is_name(word.kind) {
+            return Err(unwanted(hash, *word));
+        }
+        match directive_named(text_of(text, *word)) {
+            Some(directive) => self.obey(alloc, text, hash, directive, rest),
+            None => Err(LexFault::BadDirective(hash.pos)),
         }
     }
 }

@@ -14,6 +14,7 @@ pub mod output;
 pub mod parts;
 pub mod pieces;
 pub mod predefined;
+pub mod reading;
 pub mod replacing;
 pub mod showing;
 pub mod words;
