@@ -13,4 +13,5 @@ pub mod ShowLaws
 pub mod OperandLaws
 pub mod DoingLaws
 pub mod LineLaws
+pub mod EndLaws
 pub mod WorkedTokens

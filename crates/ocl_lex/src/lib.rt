@@ -6,6 +6,7 @@ pub mod conditions;
 pub mod context;
 pub mod directives;
 pub mod faults;
+pub mod lexer;
 pub mod literals;
 pub mod macros;
 pub mod marks;

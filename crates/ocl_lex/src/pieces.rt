@@ -183,13 +183,13 @@ fn begins(bytes: &[u8]) -> Front
 
 impl Place {
     /// The place where a text begins.
-    const FIRST: Place = Place {
+    pub const FIRST: Place = Place {
         at: 0,
         pos: Pos { line: 1, col: 1 },
     };
 
     /// The place behind a byte.
-    fn after(self, byte: u8) -> Place
+    pub fn after(self, byte: u8) -> Place
         requires near { spec.IsNear self }
         requires room { self.at < 2 ^ 24 }
         ensures value { result ≡ spec.after byte self }

@@ -12,12 +12,12 @@ returns-then-is_hash c =
     let s = state_of c.args.context.now in
     let e = directive_line c.args.text.now c.in-Some.first.now c.in-Some.rest.now s in
     does_same c.directive_line.result c.args.out.now c.args.out.now _ e (state_of c.directive_line.new.self)
-        (hash_line c.args.text.now s c.args.line.now c.in-Some.rest.now c.in-Some.first.now c.in-Some.ensures.cases.0 (sym c.is_hash.ensures ∙ c.if-is_hash.true))
-        (silently_does c.directive_line.result c.args.out.now e (state_of c.directive_line.new.self) c.directive_line.ensures)
+    (hash_line c.args.text.now s c.args.line.now c.in-Some.rest.now c.in-Some.first.now c.in-Some.ensures.cases.0 (sym c.is_hash.ensures ∙ c.if-is_hash.true))
+    (silently_does c.directive_line.result c.args.out.now e (state_of c.directive_line.new.self) c.directive_line.ensures)
 
 pub returns-else-is_hash : goal.returns-else-is_hash
 returns-else-is_hash c =
     let s = state_of c.args.context.now in
     does_same c.read_plain.result c.args.out.now c.read_plain.new.out _ (plain_line c.args.text.now s c.args.line.now) s
-        (plain_read c.args.text.now s c.args.line.now c.in-Some.rest.now c.in-Some.first.now c.in-Some.ensures.cases.0 (sym c.is_hash.ensures ∙ c.if-is_hash.false))
-        c.read_plain.ensures
+    (plain_read c.args.text.now s c.args.line.now c.in-Some.rest.now c.in-Some.first.now c.in-Some.ensures.cases.0 (sym c.is_hash.ensures ∙ c.if-is_hash.false))
+    c.read_plain.ensures
