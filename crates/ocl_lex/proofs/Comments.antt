@@ -3,7 +3,7 @@ use Rattle.std.proofs.Common.{◌≡◌, ℕ, zero, suc, ◌+◌, ◌-◌, ◌<�
 use Rattle.std.specs.Prelude.{◌==◌, slice_index, IfSome}
 use Rattle.std.specs.Option.{option_map}
 use Rattle.std.proofs.lemmas.List.{drop_more, drop_all, length-drop}
-use Rattle.ocl_lex.specs.Pieces.{closes, closing}
+use Rattle.ocl_lex.specs.Pieces.{closes, closing_len}
 
 abbrev pub further : ℕ → Option ℕ → Option ℕ
 further k o = option_map (λ n. n + k) o
@@ -12,44 +12,44 @@ further_twice : (k : ℕ) (o : Option ℕ) → further k (further 1 o) ≡ furth
 further_twice k None = refl
 further_twice k (Some n) = ap Some (omega arith)
 
-pub closing_starts : (text : List ℕ) → closing text ≡ further 0 (closing (drop 0 text))
-closing_starts text = by (closing text)
+pub closing_starts : (text : List ℕ) → closing_len text ≡ further 0 (closing_len (drop 0 text))
+closing_starts text = by (closing_len text)
   where
     by : (o : Option ℕ) → o ≡ further 0 o
     by None = refl
     by (Some n) = ap Some (omega arith)
 
-step : (c : ℕ) (rest : List ℕ) → closes (c ∷ rest) ≡ false → closing (c ∷ rest) ≡ further 1 (closing rest)
-unfolding closing
+step : (c : ℕ) (rest : List ℕ) → closes (c ∷ rest) ≡ false → closing_len (c ∷ rest) ≡ further 1 (closing_len rest)
+unfolding closing_len
 step c rest h = rw h refl
 
-found : (c : ℕ) (rest : List ℕ) → closes (c ∷ rest) ≡ true → closing (c ∷ rest) ≡ Some 2
-unfolding closing
+found : (c : ℕ) (rest : List ℕ) → closes (c ∷ rest) ≡ true → closing_len (c ∷ rest) ≡ Some 2
+unfolding closing_len
 found c rest h = rw h refl
 
 pub closing_goes_on : (text : List ℕ) (i : ℕ) → i < length text → closes (drop i text) ≡ false
-    → closing text ≡ further i (closing (drop i text)) → closing text ≡ further (i + 1) (closing (drop (i + 1) text))
+    → closing_len text ≡ further i (closing_len (drop i text)) → closing_len text ≡ further (i + 1) (closing_len (drop (i + 1) text))
 closing_goes_on text i within test so_far =
     let one : drop i text ≡ get_or text i 0 ∷ drop (i + 1) text = drop_more text i 0 within in
     let here : closes (get_or text i 0 ∷ drop (i + 1) text) ≡ false = subst (λ l. closes l ≡ false) one test in
-    let two : closing (drop i text) ≡ further 1 (closing (drop (i + 1) text)) = rw one (step (get_or text i 0) (drop (i + 1) text) here) in
-    so_far ∙ ap (further i) two ∙ further_twice i (closing (drop (i + 1) text))
+    let two : closing_len (drop i text) ≡ further 1 (closing_len (drop (i + 1) text)) = rw one (step (get_or text i 0) (drop (i + 1) text) here) in
+    so_far ∙ ap (further i) two ∙ further_twice i (closing_len (drop (i + 1) text))
 
 pub closing_found : (text : List ℕ) (i : ℕ) → i < length text → closes (drop i text) ≡ true
-    → closing text ≡ further i (closing (drop i text)) → Some (i + 2) ≡ closing text
+    → closing_len text ≡ further i (closing_len (drop i text)) → Some (i + 2) ≡ closing_len text
 closing_found text i within test so_far =
     let one : drop i text ≡ get_or text i 0 ∷ drop (i + 1) text = drop_more text i 0 within in
     let here : closes (get_or text i 0 ∷ drop (i + 1) text) ≡ true = subst (λ l. closes l ≡ true) one test in
-    let two : closing (drop i text) ≡ Some 2 = rw one (found (get_or text i 0) (drop (i + 1) text) here) in
-    let three : closing text ≡ Some (2 + i) = so_far ∙ ap (further i) two in
+    let two : closing_len (drop i text) ≡ Some 2 = rw one (found (get_or text i 0) (drop (i + 1) text) here) in
+    let three : closing_len text ≡ Some (2 + i) = so_far ∙ ap (further i) two in
     let same : 2 + i ≡ i + 2 = omega arith in
     sym (three ∙ ap Some same)
 
-pub closing_ends : (text : List ℕ) (i : ℕ) → length text ≤ i → closing text ≡ further i (closing (drop i text)) → None ≡ closing text
-unfolding closing
+pub closing_ends : (text : List ℕ) (i : ℕ) → length text ≤ i → closing_len text ≡ further i (closing_len (drop i text)) → None ≡ closing_len text
+unfolding closing_len
 closing_ends text i past so_far =
     let none : drop i text ≡ [] = drop_all i text past in
-    let zero : closing (drop i text) ≡ None = rw none refl in
+    let zero : closing_len (drop i text) ≡ None = rw none refl in
     sym (so_far ∙ ap (further i) zero)
 
 no_second : (a : Bool) → (a && false) ≡ true → ⊥

@@ -20,8 +20,8 @@ abbrev pub is_hexadecimal : List ℕ → Bool
 is_hexadecimal text = slice_index text 0 == 48 && (slice_index text 1 == 120 || slice_index text 1 == 88)
 
 -- the value of a text without suffix
-unfoldable pub unsuffixed : List ℕ → Option ℕ
-unsuffixed text =
+unfoldable pub unsuffixed_value : List ℕ → Option ℕ
+unsuffixed_value text =
     if is_hexadecimal text then value_of 16 (drop 2 text)
     else (if slice_index text 0 == 48 then value_of 8 text else value_of 10 text)
 
@@ -30,10 +30,10 @@ abbrev pub ends_in_u : List ℕ → Bool
 ends_in_u text = slice_index text (length text - 1) == 117 || slice_index text (length text - 1) == 85
 
 -- a literal is uint where it has the suffix or a value of 2^31 or more
-abbrev pub typed : Bool → ℕ → Literal
-typed suffix value = record { value = value; unsigned = suffix || nat_le 0x8000_0000 value }
+abbrev pub typed_literal : Bool → ℕ → Literal
+typed_literal suffix value = record { value = value; unsigned = suffix || nat_le 0x8000_0000 value }
 
 unfoldable pub literal_of : List ℕ → Option Literal
 literal_of text =
-    if ends_in_u text then option_map (typed true) (unsuffixed (take (length text - 1) text))
-    else option_map (typed false) (unsuffixed text)
+    if ends_in_u text then option_map (typed_literal true) (unsuffixed_value (take (length text - 1) text))
+    else option_map (typed_literal false) (unsuffixed_value text)

@@ -76,30 +76,30 @@ predefined_name predefined.UintMax = codes "UINT_MAX"
 abbrev pub int : ℕ → Part
 int value = part.Number value false
 
--- a number alone, and the number one below that of the other sign: `(-value - 1)`
-abbrev pub at_most : ℕ → List Part
-at_most value = int value ∷ []
+-- a number alone, and `(-value - 1)`
+abbrev pub one_number : ℕ → List Part
+one_number value = int value ∷ []
 
-abbrev pub one_below_minus : ℕ → List Part
-one_below_minus value = part.Mark mark.OpenParen ∷ part.Mark mark.Minus ∷ int value ∷ part.Mark mark.Minus ∷ int 1 ∷ part.Mark mark.CloseParen ∷ []
+abbrev pub minus_number_minus_one : ℕ → List Part
+minus_number_minus_one value = part.Mark mark.OpenParen ∷ part.Mark mark.Minus ∷ int value ∷ part.Mark mark.Minus ∷ int 1 ∷ part.Mark mark.CloseParen ∷ []
 
 abbrev pub predefined_body : Predefined → List Part
-predefined_body predefined.OpenclVersion = at_most 120
-predefined_body predefined.OpenclCVersion = at_most 120
-predefined_body predefined.Version12 = at_most 120
-predefined_body predefined.LocalFence = at_most 1
-predefined_body predefined.GlobalFence = at_most 2
-predefined_body predefined.CharBit = at_most 8
-predefined_body predefined.CharMax = at_most 127
-predefined_body predefined.ScharMax = at_most 127
-predefined_body predefined.CharMin = one_below_minus 127
-predefined_body predefined.ScharMin = one_below_minus 127
-predefined_body predefined.ShrtMax = at_most 32767
-predefined_body predefined.ShrtMin = one_below_minus 32767
-predefined_body predefined.IntMax = at_most 2147483647
-predefined_body predefined.IntMin = one_below_minus 2147483647
-predefined_body predefined.UcharMax = at_most 255
-predefined_body predefined.UshrtMax = at_most 65535
+predefined_body predefined.OpenclVersion = one_number 120
+predefined_body predefined.OpenclCVersion = one_number 120
+predefined_body predefined.Version12 = one_number 120
+predefined_body predefined.LocalFence = one_number 1
+predefined_body predefined.GlobalFence = one_number 2
+predefined_body predefined.CharBit = one_number 8
+predefined_body predefined.CharMax = one_number 127
+predefined_body predefined.ScharMax = one_number 127
+predefined_body predefined.CharMin = minus_number_minus_one 127
+predefined_body predefined.ScharMin = minus_number_minus_one 127
+predefined_body predefined.ShrtMax = one_number 32767
+predefined_body predefined.ShrtMin = minus_number_minus_one 32767
+predefined_body predefined.IntMax = one_number 2147483647
+predefined_body predefined.IntMin = minus_number_minus_one 2147483647
+predefined_body predefined.UcharMax = one_number 255
+predefined_body predefined.UshrtMax = one_number 65535
 predefined_body predefined.UintMax = part.Number 4294967295 true ∷ []
 
 abbrev pub all_predefined : List Predefined

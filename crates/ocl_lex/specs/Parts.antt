@@ -14,7 +14,7 @@ use Rattle.ocl_lex.specs.declared.pieces.PieceKind.{PieceKind}
 use Rattle.ocl_lex.specs.declared.pieces.PieceKind.TheVariants as kind
 use Rattle.ocl_lex.specs.Literals.{literal_of}
 use Rattle.ocl_lex.specs.Pieces.{text_of}
-use Rattle.ocl_lex.specs.Words.{named}
+use Rattle.ocl_lex.specs.Words.{name_kind}
 
 -- the bytes of a text from one place to another
 abbrev pub between : List ℕ → ℕ → ℕ → List ℕ
@@ -45,7 +45,7 @@ name_of text (part.Number value unsigned) = []
 name_of text (part.Mark m) = []
 
 abbrev pub kind_of : List ℕ → Part → TokenKind
-kind_of text (part.Name start end) = named (between text start end)
+kind_of text (part.Name start end) = name_kind (between text start end)
 kind_of text (part.Number value unsigned) = token.Number value unsigned
 kind_of text (part.Mark m) = token.Mark m
 

@@ -20,9 +20,9 @@ abbrev pub closes : List ℕ → Bool
 closes bytes = slice_index bytes 0 == 42 && slice_index bytes 1 == 47
 
 -- how many bytes there are up to the end of the first `*/`
-unfoldable pub closing : List ℕ → Option ℕ
-closing [] = None
-closing (c ∷ rest) = if closes (c ∷ rest) then Some 2 else option_map (λ n. n + 1) (closing rest)
+unfoldable pub closing_len : List ℕ → Option ℕ
+closing_len [] = None
+closing_len (c ∷ rest) = if closes (c ∷ rest) then Some 2 else option_map (λ n. n + 1) (closing_len rest)
 
 abbrev pub comment_of : ℕ → Option ℕ → Front
 comment_of left None = front kind.OpenComment left
@@ -32,14 +32,14 @@ comment_of left (Some n) = front kind.Blank (n + 2)
 abbrev pub comment_at : List ℕ → Front
 comment_at bytes =
     if slice_index bytes 1 == 47 then front kind.Blank (prefix_len is_in_line bytes)
-    else comment_of (length bytes) (closing (drop 2 bytes))
+    else comment_of (length bytes) (closing_len (drop 2 bytes))
 
 abbrev pub begins_comment : List ℕ → Bool
 begins_comment bytes = slice_index bytes 0 == 47 && (slice_index bytes 1 == 47 || slice_index bytes 1 == 42)
 
-abbrev pub marked : Option Mark → Front
-marked None = front kind.Bad 1
-marked (Some m) = front (kind.Mark m) (length (spelling_of m))
+abbrev pub mark_front : Option Mark → Front
+mark_front None = front kind.Bad 1
+mark_front (Some m) = front (kind.Mark m) (length (spelling_of m))
 
 -- what begins at the front of some bytes, and how many bytes it has
 unfoldable pub begins : List ℕ → Front
@@ -51,7 +51,7 @@ begins bytes =
     else (if is_decimal c then front kind.Number (prefix_len is_in_number bytes)
     else (if c == 35 then front kind.Hash 1
     else (if begins_comment bytes then comment_at bytes
-    else marked (mark_at bytes))))))
+    else mark_front (mark_at bytes))))))
 
 -- the place behind a byte, and the one where a text begins
 abbrev pub after : ℕ → Place → Place

@@ -138,5 +138,5 @@ abbrev pub word_or_name : Option Word → List ℕ → TokenKind
 word_or_name (Some w) text = token.Word w
 word_or_name None text = token.Name text
 
-abbrev pub named : List ℕ → TokenKind
-named text = word_or_name (word_named text) text
+abbrev pub name_kind : List ℕ → TokenKind
+name_kind text = word_or_name (word_named text) text

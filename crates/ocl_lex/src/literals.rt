@@ -77,9 +77,9 @@ fn is_hexadecimal(text: &[u8]) -> bool
 }
 
 /// The value of a text without suffix.
-#[tactic(auto, unfolding(crate::specs::Literals::unsuffixed))]
-fn unsuffixed(text: &[u8]) -> Option<u32>
-    ensures { result ≡ spec.unsuffixed text.now }
+#[tactic(auto, unfolding(crate::specs::Literals::unsuffixed_value))]
+fn unsuffixed_value(text: &[u8]) -> Option<u32>
+    ensures { result ≡ spec.unsuffixed_value text.now }
 {
     if is_hexadecimal(text) {
         return value_of(16, bytes_from(text, 2));
@@ -99,8 +99,8 @@ fn ends_in_u(text: &[u8]) -> bool
     last == b'u' || last == b'U'
 }
 
-fn typed(suffix: bool, value: u32) -> Literal
-    ensures { result ≡ spec.typed suffix value }
+fn typed_literal(suffix: bool, value: u32) -> Literal
+    ensures { result ≡ spec.typed_literal suffix value }
 {
     Literal {
         value,
@@ -114,8 +114,10 @@ pub fn literal_of(text: &[u8]) -> Option<Literal>
     ensures { result ≡ spec.literal_of text.now }
 {
     if ends_in_u(text) {
-        unsuffixed(front_of(text, text.len().saturating_sub(1))).map(|value| typed(true, value))
+        unsuffixed_value(front_of(text, text.len().saturating_sub(1))).map(|value| typed_literal(
+            true, value,
+        ))
     } else {
-        unsuffixed(text).map(|value| typed(false, value))
+        unsuffixed_value(text).map(|value| typed_literal(false, value))
     }
 }

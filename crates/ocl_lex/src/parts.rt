@@ -8,7 +8,7 @@ use crate::bytes::{bytes_from, front_of};
 use crate::faults::LexFault;
 use crate::literals::literal_of;
 use crate::pieces::{Piece, PieceKind};
-use crate::words::named;
+use crate::words::name_kind;
 use ocl_tokens::{Mark, Token, TokenKind};
 use std::alloc::{AllocError, Global};
 
@@ -84,7 +84,7 @@ fn kind_of(alloc: Global, text: &[u8], part: Part) -> Result<TokenKind, AllocErr
     ensures { IfOk result (λ kind. kind ≡ spec.kind_of text.now part) }
 {
     match part {
-        Part::Name { start, end } => named(alloc, between(text, start, end)),
+        Part::Name { start, end } => name_kind(alloc, between(text, start, end)),
         Part::Number { value, unsigned } => Ok(TokenKind::Number { value, unsigned }),
         Part::Mark(mark) => Ok(TokenKind::Mark(mark)),
     }

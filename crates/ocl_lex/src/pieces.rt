@@ -72,8 +72,8 @@ fn closes(bytes: &[u8]) -> bool
 }
 
 /// How many bytes there are up to the end of the first `*/`.
-fn closing(bytes: &[u8]) -> Option<usize>
-    ensures value { result ≡ spec.closing bytes.now }
+fn closing_len(bytes: &[u8]) -> Option<usize>
+    ensures value { result ≡ spec.closing_len bytes.now }
     ensures within { IfSome result (λ n. n ≤ length bytes.now) }
     ensures least { IfSome result (λ n. 2 ≤ n) }
 {
@@ -96,7 +96,7 @@ fn comment_at(bytes: &[u8]) -> Front
             len: line_len(bytes),
         };
     }
-    match closing(bytes_from(bytes, 2)) {
+    match closing_len(bytes_from(bytes, 2)) {
         Some(len) => Front {
             kind: PieceKind::Blank,
             len: len + 2,
@@ -119,9 +119,9 @@ fn begins_comment(bytes: &[u8]) -> bool
 }
 
 /// The punctuator or bad byte at the front of some bytes.
-fn marked(bytes: &[u8]) -> Front
+fn mark_front(bytes: &[u8]) -> Front
     requires { 0 < length bytes.now }
-    ensures value { result ≡ spec.marked (marks.mark_at bytes.now) }
+    ensures value { result ≡ spec.mark_front (marks.mark_at bytes.now) }
     ensures within { result.len ≤ length bytes.now }
 {
     match mark_at(bytes) {
@@ -177,7 +177,7 @@ fn begins(bytes: &[u8]) -> Front
     if begins_comment(bytes) {
         comment_at(bytes)
     } else {
-        marked(bytes)
+        mark_front(bytes)
     }
 }
 

@@ -100,14 +100,14 @@ fn int(value: u32) -> Part
     }
 }
 
-fn at_most(alloc: Global, value: u32) -> Result<Vec<Part>, AllocError>
-    ensures { IfOk result (λ parts. parts.items ≡ spec.at_most value) }
+fn one_number(alloc: Global, value: u32) -> Result<Vec<Part>, AllocError>
+    ensures { IfOk result (λ parts. parts.items ≡ spec.one_number value) }
 {
     Vec::from_slice(alloc, &[int(value)])
 }
 
-fn one_below_minus(alloc: Global, value: u32) -> Result<Vec<Part>, AllocError>
-    ensures { IfOk result (λ parts. parts.items ≡ spec.one_below_minus value) }
+fn minus_number_minus_one(alloc: Global, value: u32) -> Result<Vec<Part>, AllocError>
+    ensures { IfOk result (λ parts. parts.items ≡ spec.minus_number_minus_one value) }
 {
     let minus = Part::Mark(Mark::Minus);
     let parts = [
@@ -127,19 +127,19 @@ pub fn predefined_body(alloc: Global, predefined: Predefined) -> Result<Vec<Part
 {
     match predefined {
         Predefined::OpenclVersion | Predefined::OpenclCVersion | Predefined::Version12 => {
-            at_most(alloc, 120)
+            one_number(alloc, 120)
         }
-        Predefined::LocalFence => at_most(alloc, 1),
-        Predefined::GlobalFence => at_most(alloc, 2),
-        Predefined::CharBit => at_most(alloc, 8),
-        Predefined::CharMax | Predefined::ScharMax => at_most(alloc, 127),
-        Predefined::CharMin | Predefined::ScharMin => one_below_minus(alloc, 127),
-        Predefined::ShrtMax => at_most(alloc, 32767),
-        Predefined::ShrtMin => one_below_minus(alloc, 32767),
-        Predefined::IntMax => at_most(alloc, 2147483647),
-        Predefined::IntMin => one_below_minus(alloc, 2147483647),
-        Predefined::UcharMax => at_most(alloc, 255),
-        Predefined::UshrtMax => at_most(alloc, 65535),
+        Predefined::LocalFence => one_number(alloc, 1),
+        Predefined::GlobalFence => one_number(alloc, 2),
+        Predefined::CharBit => one_number(alloc, 8),
+        Predefined::CharMax | Predefined::ScharMax => one_number(alloc, 127),
+        Predefined::CharMin | Predefined::ScharMin => minus_number_minus_one(alloc, 127),
+        Predefined::ShrtMax => one_number(alloc, 32767),
+        Predefined::ShrtMin => minus_number_minus_one(alloc, 32767),
+        Predefined::IntMax => one_number(alloc, 2147483647),
+        Predefined::IntMin => minus_number_minus_one(alloc, 2147483647),
+        Predefined::UcharMax => one_number(alloc, 255),
+        Predefined::UshrtMax => one_number(alloc, 65535),
         Predefined::UintMax => Vec::from_slice(
             alloc,
             &[Part::Number {

@@ -254,8 +254,8 @@ pub fn word_named(text: &[u8]) -> Option<Word>
 }
 
 /// The token of a name that no macro replaces.
-pub fn named(alloc: Global, text: &[u8]) -> Result<TokenKind, AllocError>
-    ensures { IfOk result (λ kind. kind ≡ spec.named text.now) }
+pub fn name_kind(alloc: Global, text: &[u8]) -> Result<TokenKind, AllocError>
+    ensures { IfOk result (λ kind. kind ≡ spec.name_kind text.now) }
 {
     match word_named(text) {
         Some(word) => Ok(TokenKind::Word(word)),

@@ -1,7 +1,7 @@
 use Rattle.std.proofs.Common.{◌≡◌, true, false, drop, arith, sym, ap, ◌∙◌}
 use Rattle.ocl_lex.specs.Pieces.{closes}
 use Rattle.ocl_lex.proofs.Comments.{closing_starts, closing_goes_on, closing_found, closing_ends, within_text}
-use Rattle.ocl_lex.proofs.pieces.closing.Goals as goal
+use Rattle.ocl_lex.proofs.pieces.closing_len.Goals as goal
 
 pub loop-place-init : goal.loop-place-init
 loop-place-init c = closing_starts c.args.bytes.now
