@@ -3,6 +3,9 @@ ghost use Rattle.std.specs.Prelude.{◌≡◌, ◌⊎◌, ◌≤◌, Ok, Err, le
 ghost use Rattle.ocl_lex.specs.Lines as spec;
 ghost use Rattle.ocl_lex.specs.Pieces.{first_place};
 
+#[cfg(test)]
+mod tests;
+
 use crate::context::Context;
 use crate::faults::LexFault;
 use crate::output::Output;

@@ -163,7 +163,7 @@ fn left_out_name(word: LeftOut) -> &'static [u8]
 }
 
 /// The bytes of a word that is no vector type, and none for a vector type.
-fn word_name(word: Word) -> &'static [u8]
+pub fn word_name(word: Word) -> &'static [u8]
     ensures { result.now ≡ spec.word_name word }
 {
     match word {
