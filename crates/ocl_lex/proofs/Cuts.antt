@@ -51,7 +51,7 @@ passes_on text i total before now covered left p b within byte so_far passes =
     let rest : drop 1 (drop i text) ≡ drop (i + 1) text = rw one refl in
     so_far ∙ passes ∙ ap (λ c. now ++ shown_pieces (cuts left (after c p) (drop 1 (drop i text)))) first ∙ ap (λ l. now ++ shown_pieces (cuts left (after b p) l)) rest
 
-none_left : (covered : ℕ) (p : Place) → cuts covered p [] ≡ []
+pub none_left : (covered : ℕ) (p : Place) → cuts covered p [] ≡ []
 unfolding cuts
 none_left zero p = refl
 none_left (suc covered) p = refl

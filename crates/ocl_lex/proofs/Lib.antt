@@ -14,4 +14,6 @@ pub mod OperandLaws
 pub mod DoingLaws
 pub mod LineLaws
 pub mod EndLaws
+pub mod PieceLaws
+pub mod SpanLaws
 pub mod WorkedTokens

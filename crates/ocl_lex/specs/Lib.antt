@@ -11,4 +11,5 @@ pub mod Tables
 pub mod Telling
 pub mod Frames
 pub mod Doing
+pub mod Spans
 pub mod Cutting
