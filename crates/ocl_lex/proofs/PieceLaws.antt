@@ -37,19 +37,19 @@ unfolding closing_len
 closing_within [] n h = cc
 closing_within (c ∷ rest) n h = by_test (closes (c ∷ rest))
     (λ t.
-      let two : Some 2 ≡ Some n = sym (rw t refl) ∙ h in
-      let same : 2 ≡ n = cc in
-      let room : 0 + 2 ≤ length (c ∷ rest) = within_text (c ∷ rest) 0 t in
-      (omega arith, omega arith))
+    let two : Some 2 ≡ Some n = sym (rw t refl) ∙ h in
+    let same : 2 ≡ n = cc in
+    let room : 0 + 2 ≤ length (c ∷ rest) = within_text (c ∷ rest) 0 t in
+    (omega arith, omega arith))
     (λ t. by_option (closing_len rest)
-      (λ none.
-        let no_end : None ≡ Some n = sym (rw t (ap (λ o. option_map (λ k. k + 1) o) none)) ∙ h in
-        cc)
-      (λ k some.
-        let more : Some (k + 1) ≡ Some n = sym (rw t (ap (λ o. option_map (λ j. j + 1) o) some)) ∙ h in
-        let same : k + 1 ≡ n = cc in
-        let inner : (2 ≤ k) × (k ≤ length rest) = closing_within rest k some in
-        (omega arith, omega arith)))
+    (λ none.
+    let no_end : None ≡ Some n = sym (rw t (ap (λ o. option_map (λ k. k + 1) o) none)) ∙ h in
+    cc)
+    (λ k some.
+    let more : Some (k + 1) ≡ Some n = sym (rw t (ap (λ o. option_map (λ j. j + 1) o) some)) ∙ h in
+    let same : k + 1 ≡ n = cc in
+    let inner : (2 ≤ k) × (k ≤ length rest) = closing_within rest k some in
+    (omega arith, omega arith)))
 
 choose : (bytes : List ℕ) (b : Bool) (x y : Front) → Fits bytes x → Fits bytes y → Fits bytes (if b then x else y)
 choose bytes true x y fits_x fits_y = fits_x
@@ -62,9 +62,9 @@ found_passes : {A : Type 0} (p : A → Bool) (xs : List A) (x : A) → find p xs
 found_passes p [] x h = cc
 found_passes p (y ∷ ys) x h = by_test (p y)
     (λ t.
-      let here : Some y ≡ Some x = sym (rw t refl) ∙ h in
-      let same : y ≡ x = cc in
-      subst (λ z. p z ≡ true) same t)
+    let here : Some y ≡ Some x = sym (rw t refl) ∙ h in
+    let same : y ≡ x = cc in
+    subst (λ z. p z ≡ true) same t)
     (λ t. found_passes p ys x (sym (rw t refl) ∙ h))
 
 fits_mark : (bytes : List ℕ) (found : Option Mark) → mark_at bytes ≡ found → 0 < length bytes → Fits bytes (mark_front found)
@@ -82,11 +82,11 @@ fits_comment : (bytes : List ℕ) → Fits bytes (comment_at bytes)
 fits_comment bytes = choose bytes (slice_index bytes 1 == 47) (front kind.Blank (prefix_len is_in_line bytes)) (comment_of (length bytes) (closing_len (drop 2 bytes)))
     (fits_plain bytes kind.Blank (prefix_len is_in_line bytes) (whole_prefix is_in_line bytes) (λ m e. cc))
     (by_option (closing_len (drop 2 bytes))
-      (λ none. subst (λ o. Fits bytes (comment_of (length bytes) o)) (sym none) (fits_plain bytes kind.OpenComment (length bytes) (omega arith) (λ m e. cc)))
-      (λ n ends.
-        let within : (2 ≤ n) × (n ≤ length (drop 2 bytes)) = closing_within (drop 2 bytes) n ends in
-        let room : n + 2 ≤ length bytes = omega (arith, length-drop 2 bytes) in
-        subst (λ o. Fits bytes (comment_of (length bytes) o)) (sym ends) (fits_plain bytes kind.Blank (n + 2) room (λ m e. cc))))
+    (λ none. subst (λ o. Fits bytes (comment_of (length bytes) o)) (sym none) (fits_plain bytes kind.OpenComment (length bytes) (omega arith) (λ m e. cc)))
+    (λ n ends.
+    let within : (2 ≤ n) × (n ≤ length (drop 2 bytes)) = closing_within (drop 2 bytes) n ends in
+    let room : n + 2 ≤ length bytes = omega (arith, length-drop 2 bytes) in
+    subst (λ o. Fits bytes (comment_of (length bytes) o)) (sym ends) (fits_plain bytes kind.Blank (n + 2) room (λ m e. cc))))
 
 begins_fits : (bytes : List ℕ) → 0 < length bytes → Fits bytes (begins bytes)
 unfolding begins
@@ -145,10 +145,12 @@ cuts_placed text before (c ∷ rest) zero place split here at =
     let there : after c place ≡ place_behind first_place (before ++ c ∷ []) = ap (after c) here ∙ sym (place_behind_more first_place before c) in
     let next : (after c place).at ≡ length (before ++ c ∷ []) = after_at c place ∙ (omega (arith, length-append before (c ∷ []))) in
     let more : Placed text ((after c place).at + ((begins (c ∷ rest)).len - 1)) (cuts ((begins (c ∷ rest)).len - 1) (after c place) rest) =
-        cuts_placed text (before ++ c ∷ []) rest ((begins (c ∷ rest)).len - 1) (after c place) one there next in
-    (first_placed text before (c ∷ rest) place split (omega arith) here at, omega arith,
-     earlier text (place.at + (begins (c ∷ rest)).len) ((after c place).at + ((begins (c ∷ rest)).len - 1)) (cuts ((begins (c ∷ rest)).len - 1) (after c place) rest)
-        (omega (arith, after_at c place)) more)
+    cuts_placed text (before ++ c ∷ []) rest ((begins (c ∷ rest)).len - 1) (after c place) one there next in (
+      first_placed text before (c ∷ rest) place split (omega arith) here at,
+      omega arith,
+      earlier text (place.at + (begins (c ∷ rest)).len) ((after c place).at + ((begins (c ∷ rest)).len - 1)) (cuts ((begins (c ∷ rest)).len - 1) (after c place) rest)
+          (omega (arith, after_at c place)) more,
+    )
 cuts_placed text before (c ∷ rest) (suc covered) place split here at =
     let one : text ≡ (before ++ c ∷ []) ++ rest = split ∙ sym (append_assoc before (c ∷ []) rest) in
     let there : after c place ≡ place_behind first_place (before ++ c ∷ []) = ap (after c) here ∙ sym (place_behind_more first_place before c) in
@@ -162,8 +164,8 @@ shown_placed text from [] h = tt
 shown_placed text from (p ∷ pieces) (placed, behind, rest) = by_test (is_shown p.kind)
     (λ t. rw t (placed, behind, shown_placed text p.end pieces rest))
     (λ t.
-      let before : from ≤ p.end = omega (arith, placed.ordered) in
-      rw t (earlier text from p.end (shown_pieces pieces) before (shown_placed text p.end pieces rest)))
+    let before : from ≤ p.end = omega (arith, placed.ordered) in
+    rw t (earlier text from p.end (shown_pieces pieces) before (shown_placed text p.end pieces rest)))
 
 pub pieces_placed : (text : List ℕ) → Placed text 0 (pieces_of text)
 pieces_placed text = shown_placed text 0 (cuts 0 first_place text) (cuts_placed text [] text 0 first_place refl refl refl)

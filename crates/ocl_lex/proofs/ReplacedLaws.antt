@@ -13,7 +13,7 @@ use Rattle.ocl_lex.specs.Macros.{Macros, found, replaced, replacement_of, shows,
 use Rattle.ocl_lex.specs.Parts.{between, name_of, token_at}
 use Rattle.ocl_lex.proofs.TableLaws.{by_test}
 
-by_option : {A : Type 0} {P : Type 0} (o : Option A) → (o ≡ None → P) → ((x : A) → o ≡ Some x → P) → P
+pub by_option : {A : Type 0} {P : Type 0} (o : Option A) → (o ≡ None → P) → ((x : A) → o ≡ Some x → P) → P
 by_option None none some = none refl
 by_option (Some x) none some = some x refl
 

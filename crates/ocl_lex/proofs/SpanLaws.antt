@@ -57,8 +57,8 @@ lines_placed text from (p ∷ pieces) (placed, after_from, rest) =
     let more : PlacedLines text p.end (lines pieces) = lines_placed text p.end pieces rest in
     let before : from ≤ p.end = omega (arith, placed.ordered) in
     by_test (is_line_end p.kind)
-      (λ t. rw t (earlier_lines text from p.end (lines pieces) before more))
-      (λ t. rw t (onto_placed text from p (lines pieces) placed after_from more))
+    (λ t. rw t (earlier_lines text from p.end (lines pieces) before more))
+    (λ t. rw t (onto_placed text from p (lines pieces) placed after_from more))
 
 end_of_line : (text : List ℕ) (line : List Piece) (k : ℕ) (Q : ℕ → Type 0) → PlacedLine text k line Q → (i : ℕ) × (k ≤ i) × Q i
 end_of_line text [] k Q h = (k, omega arith, h)
@@ -88,9 +88,9 @@ says_part text kind.Name p q placed is h =
 says_part text kind.Number p q placed is h = by_option (literal_of (text_of text p))
     (λ none. absurd (let no : Err _ ≡ Ok q = sym (ap (number_or_bad p.pos) none) ∙ h in cc))
     (λ l some.
-      let made : Ok (part.Number l.value l.unsigned) ≡ Ok q = sym (ap (number_or_bad p.pos) some) ∙ h in
-      let same : part.Number l.value l.unsigned ≡ q = cc in
-      subst (λ r. Says (between text p.start p.end) (kind_of text r)) same some)
+    let made : Ok (part.Number l.value l.unsigned) ≡ Ok q = sym (ap (number_or_bad p.pos) some) ∙ h in
+    let same : part.Number l.value l.unsigned ≡ q = cc in
+    subst (λ r. Says (between text p.start p.end) (kind_of text r)) same some)
 says_part text (kind.Mark m) p q placed is h =
     let same : part.Mark m ≡ q = cc in
     subst (λ r. Says (between text p.start p.end) (kind_of text r)) same (placed.spelled m is)
@@ -158,19 +158,19 @@ module _ (text : List ℕ) where
   made_fine (suc n) macros p from placed after_from q Q h = by_option (found text macros q)
       (λ none. rw none (stands_made text p q placed, after_from, h))
       (λ body some. rw some (fine_parts from (shows text n (without (name_of text q) macros) true p)
-        (made_fine n (without (name_of text q) macros) p from placed after_from) body Q h))
+      (made_fine n (without (name_of text q) macros) p from placed after_from) body Q h))
 
   piece_fine : (macros : Macros) (p : Piece) (from : ℕ) → IsPlaced text p → from ≤ p.start → (Q : ℕ → Type 0) → Q from → Q p.end → Fine from (piece_events text macros p) Q
   piece_fine macros p from placed after_from Q here there = by_result (part_of text p)
       (λ q is. by_option (found text macros q)
-        (λ none.
-          let one : piece_events text macros p ≡ Show (token_at text false p q) ∷ [] = ap (part_events text macros p) is ∙ replaced_plain text macros false p q none in
-          subst (λ es. Fine from es Q) (sym one) (stands_plain text p q placed is, after_from, there))
-        (λ body some.
-          let one : piece_events text macros p ≡ Use p.pos ∷ flat_map (replaced text (without (name_of text q) macros) true p) body =
-              ap (part_events text macros p) is ∙ replaced_found text macros false p q body some in
-          subst (λ es. Fine from es Q) (sym one) (fine_parts from (replaced text (without (name_of text q) macros) true p)
-            (made_fine (length (without (name_of text q) macros)) (without (name_of text q) macros) p from placed after_from) body Q here)))
+      (λ none.
+      let one : piece_events text macros p ≡ Show (token_at text false p q) ∷ [] = ap (part_events text macros p) is ∙ replaced_plain text macros false p q none in
+      subst (λ es. Fine from es Q) (sym one) (stands_plain text p q placed is, after_from, there))
+      (λ body some.
+      let one : piece_events text macros p ≡ Use p.pos ∷ flat_map (replaced text (without (name_of text q) macros) true p) body =
+      ap (part_events text macros p) is ∙ replaced_found text macros false p q body some in
+      subst (λ es. Fine from es Q) (sym one) (fine_parts from (replaced text (without (name_of text q) macros) true p)
+      (made_fine (length (without (name_of text q) macros)) (without (name_of text q) macros) p from placed after_from) body Q here)))
       (λ f is. subst (λ es. Fine from es Q) (sym (ap (part_events text macros p) is)) tt)
 
   line_fine : (macros : Macros) (line : List Piece) (k : ℕ) (R Q : ℕ → Type 0) → PlacedLine text k line R → (from : ℕ) → from ≤ k
@@ -180,9 +180,9 @@ module _ (text : List ℕ) where
       let short : from ≤ p.end = omega (arith, placed.ordered) in
       let first : from ≤ p.start = omega arith in
       fine_append from (piece_events text macros p) (flat_map (piece_events text macros) line) Q
-        (piece_fine macros p from placed first (λ j. Fine j (flat_map (piece_events text macros) line) Q)
-          (line_fine macros line p.end R Q rest from short goes)
-          (line_fine macros line p.end R Q rest p.end (omega arith) goes))
+      (piece_fine macros p from placed first (λ j. Fine j (flat_map (piece_events text macros) line) Q)
+      (line_fine macros line p.end R Q rest from short goes)
+      (line_fine macros line p.end R Q rest p.end (omega arith) goes))
 
   -- ---- lines without tokens
 
@@ -267,8 +267,8 @@ module _ (text : List ℕ) where
   plain_fine s line k R Q h from less goes =
       let last : (i : ℕ) × (k ≤ i) × R i = end_of_line text line k R h in
       by_test (part_shown s.conditions)
-        (λ t. rw t (line_fine s.macros line k R Q h from less goes))
-        (λ t. rw t (only_fine from (flat_map skipped_events line) Q (only_skips line s) (goes from last.0 (omega (arith, last.1)) last.2)))
+      (λ t. rw t (line_fine s.macros line k R Q h from less goes))
+      (λ t. rw t (only_fine from (flat_map skipped_events line) Q (only_skips line s) (goes from last.0 (omega (arith, last.1)) last.2)))
 
   effect_fine : (s : State) (line : List Piece) (k : ℕ) (R Q : ℕ → Type 0) → PlacedLine text k line R → (from : ℕ) → from ≤ k
       → ((j i : ℕ) → j ≤ i → R i → Q j) → Fine from (effect text s line).events Q
@@ -277,8 +277,8 @@ module _ (text : List ℕ) where
   effect_fine s (p ∷ pieces) k R Q h from less goes =
       let last : (i : ℕ) × (k ≤ i) × R i = end_of_line text (p ∷ pieces) k R h in
       by_test (is_hash p.kind)
-        (λ t. rw t (only_fine from (directive_line text p pieces s).events Q (only_line p pieces s) (goes from last.0 (omega (arith, last.1)) last.2)))
-        (λ t. rw t (plain_fine s (p ∷ pieces) k R Q h from less goes))
+      (λ t. rw t (only_fine from (directive_line text p pieces s).events Q (only_line p pieces s) (goes from last.0 (omega (arith, last.1)) last.2)))
+      (λ t. rw t (plain_fine s (p ∷ pieces) k R Q h from less goes))
 
   ends_whole : (from : ℕ) (conditions : List Condition) → Whole from (ends (end_token text) conditions)
   ends_whole from [] = inr (refl, refl)
@@ -289,8 +289,8 @@ module _ (text : List ℕ) where
   events_whole [] s k h from less = ends_whole from s.conditions
   events_whole (line ∷ rest) s k h from less =
       fine_whole from (effect text s line).events (events text (effect text s line).next rest)
-        (effect_fine s line k (λ i. PlacedLines text i rest) (λ j. Whole j (events text (effect text s line).next rest)) h from less
-          (λ j i short placed. events_whole rest (effect text s line).next i placed j short))
+      (effect_fine s line k (λ i. PlacedLines text i rest) (λ j. Whole j (events text (effect text s line).next rest)) h from less
+      (λ j i short placed. events_whole rest (effect text s line).next i placed j short))
 
   within_stands : (es : List Event) (n from : ℕ) (tokens : List Token) → within n es ≡ Ok tokens → Whole from es
       → (before : List Token) × (tokens ≡ before ++ end_token text ∷ []) × StandInOrder text from before
@@ -302,10 +302,10 @@ module _ (text : List ℕ) where
   within_stands (Show t ∷ es) zero from tokens h whole = absurd (let no : Err _ ≡ Ok tokens = h in cc)
   within_stands (Show t ∷ es) (suc n) from tokens h (inl (stands, after_from, rest)) = by_result (within n es)
       (λ us is.
-        let made : Ok (t ∷ us) ≡ Ok tokens = sym (ap (with_front (t ∷ [])) is) ∙ h in
-        let same : t ∷ us ≡ tokens = cc in
-        let more : (before : List Token) × (us ≡ before ++ end_token text ∷ []) × StandInOrder text (behind from t) before = within_stands es n (behind from t) us is rest in
-        (t ∷ more.0, sym same ∙ ap (λ l. t ∷ l) more.1, (stands, after_from, more.2)))
+      let made : Ok (t ∷ us) ≡ Ok tokens = sym (ap (with_front (t ∷ [])) is) ∙ h in
+      let same : t ∷ us ≡ tokens = cc in
+      let more : (before : List Token) × (us ≡ before ++ end_token text ∷ []) × StandInOrder text (behind from t) before = within_stands es n (behind from t) us is rest in
+      (t ∷ more.0, sym same ∙ ap (λ l. t ∷ l) more.1, (stands, after_from, more.2)))
       (λ f is. absurd (let no : Err f ≡ Ok tokens = sym (ap (with_front (t ∷ [])) is) ∙ h in cc))
   within_stands (Show t ∷ es) (suc n) from tokens h (inr (last, none)) =
       let made : Ok (t ∷ []) ≡ Ok tokens = sym (ap (λ l. with_front (t ∷ []) (within n l)) none) ∙ h in
@@ -316,4 +316,4 @@ pub stand_in : (text : List ℕ) (tokens : List Token) → tokens_of text ≡ Ok
 unfolding tokens_of
 stand_in text tokens h =
     within_stands text (events text first_state (lines (pieces_of text))) limit 0 tokens h
-      (events_whole text (lines (pieces_of text)) first_state 0 (lines_placed text 0 (pieces_of text) (pieces_placed text)) 0 (omega arith))
+    (events_whole text (lines (pieces_of text)) first_state 0 (lines_placed text 0 (pieces_of text) (pieces_placed text)) 0 (omega arith))

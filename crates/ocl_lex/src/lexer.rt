@@ -2,6 +2,7 @@
 ghost use Rattle.std.specs.Prelude.{◌≡◌, ◌⊎◌, ◌≤◌, Ok, Err, length, IfOk, IfErr};
 ghost use Rattle.ocl_lex.specs.Lines as spec;
 ghost use Rattle.ocl_lex.specs.Pieces.{first_place};
+ghost use Rattle.ocl_lex.specs.Spans.{StandIn};
 
 #[cfg(test)]
 mod tests;
@@ -45,9 +46,13 @@ fn end_token(text: &[u8]) -> Token
 }
 
 /// The tokens of a text, macros replaced, or its first fault.
+///
+/// The last token, and no other, is [`TokenKind::End`]. A token that no macro made is what its bytes say, and begins behind
+/// the one before; a token that a macro made stands where the macro is used.
 pub fn lex(alloc: Global, bytes: &[u8]) -> Result<Tokens, LexFault>
     requires { length bytes.now ≤ 1048576 }
     ensures tokens { IfOk result (λ tokens. spec.tokens_of bytes.now ≡ Ok tokens) }
+    ensures spans { IfOk result (λ tokens. StandIn bytes.now tokens) }
     ensures fault { IfErr result (λ fault. (fault ≡ LexFault.Memory) ⊎ (spec.tokens_of bytes.now ≡ Err fault)) }
 {
     let pieces = pieces_of(alloc, bytes)?;

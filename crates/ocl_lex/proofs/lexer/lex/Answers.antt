@@ -3,6 +3,7 @@ use Rattle.ocl_lex.specs.declared.output.Output.{Output}
 use Rattle.ocl_lex.specs.Doing.{state_of}
 use Rattle.ocl_lex.specs.Lines.{end_token}
 use Rattle.ocl_lex.proofs.EndLaws.{end_stopped, end_told, lines_stopped}
+use Rattle.ocl_lex.proofs.SpanLaws.{stand_in}
 use Rattle.ocl_lex.proofs.lexer.lex.Goals as goal
 
 pub returns-in_err-read_lines-clause-fault : goal.returns-in_err-read_lines-clause-fault
@@ -28,3 +29,6 @@ returns-clause-tokens c =
     c.read_lines.new.context.conditions.items c.as_slice-2.result.now c.end_token.result
     c.new-2.ensures.items refl c.in_ok-pieces.ensures c.as_slice.ensures.value c.in_ok-context.ensures
     c.in_ok-read_lines.ensures c.end_token.ensures c.as_slice-2.ensures.value c.close.new.out c.in_ok-close.ensures
+
+pub returns-clause-spans : goal.returns-clause-spans
+returns-clause-spans c = stand_in c.args.bytes.now c.close.new.out.tokens.items (returns-clause-tokens c)
