@@ -1,14 +1,12 @@
 -- Pieces found by going on byte by byte.
-use Rattle.std.proofs.Common.{◌≡◌, ℕ, zero, suc, ◌+◌, ◌-◌, ◌<◌, ◌≤◌, Bool, true, false, List, [], ◌∷◌, ◌++◌, length, drop, take, Option, Some, None, refl, sym, ap, subst, ◌∙◌, arith, add-one, get_or, append_assoc, append-nil, filter}
-use Rattle.std.specs.Prelude.{slice_index, nat_eq, IfSome}
-use Rattle.std.specs.List.{find, starts_with}
-use Rattle.std.proofs.lemmas.List.{drop_more, drop_all, length-drop, length-take}
+use Rattle.std.proofs.Common.{◌≡◌, ℕ, zero, suc, ◌+◌, ◌-◌, ◌<◌, ◌≤◌, List, [], ◌∷◌, ◌++◌, length, drop, refl, sym, ap, ◌∙◌, arith, get_or, append_assoc, append-nil}
+use Rattle.std.specs.Prelude.{slice_index}
+use Rattle.std.proofs.lemmas.List.{drop_more, drop_all}
 use Rattle.std.proofs.lemmas.List.Elements.{filter-append}
-use Rattle.ocl_tokens.specs.declared.marks.Mark.{Mark}
 use Rattle.ocl_lex.specs.declared.pieces.Front.{Front}
 use Rattle.ocl_lex.specs.declared.pieces.Piece.{Piece}
 use Rattle.ocl_lex.specs.declared.pieces.Place.{Place}
-use Rattle.ocl_lex.specs.Pieces.{after, begins, cuts, first_place, is_shown, piece_at, pieces_of, shown_pieces}
+use Rattle.ocl_lex.specs.Pieces.{after, begins, cuts, is_shown, piece_at, shown_pieces}
 use Rattle.ocl_lex.specs.Cutting.{Passes}
 
 pub passes_covered : (covered : ℕ) (p : Place) (bytes : List ℕ) (before : List Piece) → 0 < covered → 0 < length bytes

@@ -1,22 +1,21 @@
 -- Pieces stand in order, and say where they stand.
-use Rattle.std.proofs.Common.{◌≡◌, ℕ, zero, suc, ◌+◌, ◌-◌, ◌<◌, ◌≤◌, Bool, true, false, not, ◌&&◌, ◌||◌, if◌then◌else◌, cond, List, [], ◌∷◌, ◌++◌, length, drop, take, Option, Some, None, refl, sym, ap, subst, ◌∙◌, arith, true≢false, filter, append_assoc}
+use Rattle.std.proofs.Common.{◌≡◌, ℕ, zero, suc, ◌+◌, ◌-◌, ◌<◌, ◌≤◌, Bool, true, false, if◌then◌else◌, List, [], ◌∷◌, ◌++◌, length, drop, take, Option, Some, None, refl, sym, ap, subst, ◌∙◌, arith, append_assoc}
 use Rattle.std.specs.Prelude.{◌==◌, slice_index, nat_eq, ⊤}
 use Rattle.std.specs.List.{find, prefix_len, starts_with}
 use Rattle.std.specs.Option.{option_map}
 use Rattle.std.proofs.lemmas.List.{length-drop, length-take, length-append}
 use Rattle.std.proofs.Math.Seq.{drop-append_seam, take-append_seam}
 use Rattle.std.proofs.lemmas.Slice.Eq.{bytes_eq-Decides}
-use Rattle.vx_base.specs.declared.types.Pos.{Pos}
 use Rattle.ocl_tokens.specs.declared.marks.Mark.{Mark}
 use Rattle.ocl_lex.specs.declared.pieces.Front.{Front}
 use Rattle.ocl_lex.specs.declared.pieces.Piece.{Piece}
 use Rattle.ocl_lex.specs.declared.pieces.PieceKind.{PieceKind}
 use Rattle.ocl_lex.specs.declared.pieces.PieceKind.TheVariants as kind
 use Rattle.ocl_lex.specs.declared.pieces.Place.{Place}
-use Rattle.ocl_lex.specs.Bytes.{begins_name, is_blank, is_decimal, is_feed, is_in_line, is_in_name, is_in_number}
+use Rattle.ocl_lex.specs.Bytes.{is_feed, is_in_line, is_in_name, is_in_number}
 use Rattle.ocl_lex.specs.Lines.{place_behind}
 use Rattle.ocl_lex.specs.Marks.{all_marks, mark_at, spelling_of}
-use Rattle.ocl_lex.specs.Pieces.{after, begins, begins_comment, closes, closing_len, comment_at, comment_of, cuts, first_place, front, is_shown, mark_front, piece_at, pieces_of, shown_pieces, text_of}
+use Rattle.ocl_lex.specs.Pieces.{after, begins, closes, closing_len, comment_at, comment_of, cuts, first_place, front, is_shown, mark_front, piece_at, pieces_of, shown_pieces, text_of}
 use Rattle.ocl_lex.specs.Spans.{pos_at}
 use Rattle.ocl_lex.proofs.Comments.{within_text}
 use Rattle.ocl_lex.proofs.Cuts.{none_left}

@@ -1,11 +1,10 @@
 -- The macros that are there from the start, defined one after another.
-use Rattle.std.proofs.Common.{◌≡◌, ℕ, ◌+◌, ◌<◌, ◌≤◌, List, [], length, take, get_or, refl, sym, ap, ◌∙◌, arith}
+use Rattle.std.proofs.Common.{◌≡◌, ℕ, ◌+◌, ◌<◌, ◌≤◌, [], take, get_or, sym, ap, ◌∙◌}
 use Rattle.std.specs.List.{fold}
 use Rattle.std.proofs.lemmas.List.{take_all}
 use Rattle.std.proofs.lemmas.List.Sums.{fold_more}
-use Rattle.ocl_lex.specs.declared.parts.Part.{Part}
 use Rattle.ocl_lex.specs.declared.predefined.Predefined.{Predefined}
-use Rattle.ocl_lex.specs.Macros.{Macros, all_predefined, defined, predefined_body, predefined_macros, predefined_name, with_predefined}
+use Rattle.ocl_lex.specs.Macros.{Macros, all_predefined, predefined_macros, with_predefined}
 
 pub defines_next : (i : ℕ) (before after : Macros) (d : Predefined) → i < 17 → before ≡ fold with_predefined [] (take i all_predefined)
     → after ≡ with_predefined before (get_or all_predefined i d) → after ≡ fold with_predefined [] (take (i + 1) all_predefined)

@@ -1,16 +1,14 @@
 -- What a replacement shows, without counting how deep replacements stand.
-use Rattle.std.proofs.Common.{◌≡◌, ℕ, zero, suc, ◌+◌, ◌-◌, ◌<◌, ◌≤◌, Bool, true, false, cond, not, List, [], ◌∷◌, ◌++◌, length, Option, Some, None, refl, sym, ap, subst, ◌∙◌, arith, filter, append_assoc, append-nil}
+use Rattle.std.proofs.Common.{◌≡◌, ℕ, zero, suc, ◌<◌, ◌≤◌, Bool, true, List, [], ◌∷◌, length, Option, Some, None, refl, sym, ap, subst, ◌∙◌, arith}
 use Rattle.std.proofs.Math.Path.{fun_ext}
 use Rattle.std.specs.List.{flat_map}
 use Rattle.std.specs.Str.{bytes_eq}
-use Rattle.std.specs.Map.{lookup}
-use Rattle.vx_base.specs.declared.types.Pos.{Pos}
 use Rattle.ocl_lex.specs.declared.parts.Part.{Part}
 use Rattle.ocl_lex.specs.declared.parts.Part.TheVariants as part
 use Rattle.ocl_lex.specs.declared.pieces.Piece.{Piece}
-use Rattle.ocl_lex.specs.Events.{Event, Show, Use}
-use Rattle.ocl_lex.specs.Macros.{Macros, found, replaced, replacement_of, shows, used, without}
-use Rattle.ocl_lex.specs.Parts.{between, name_of, token_at}
+use Rattle.ocl_lex.specs.Events.{Show, Use}
+use Rattle.ocl_lex.specs.Macros.{Macros, found, replaced, replacement_of, shows, without}
+use Rattle.ocl_lex.specs.Parts.{name_of, token_at}
 use Rattle.ocl_lex.proofs.TableLaws.{by_test}
 
 pub by_option : {A : Type 0} {P : Type 0} (o : Option A) → (o ≡ None → P) → ((x : A) → o ≡ Some x → P) → P

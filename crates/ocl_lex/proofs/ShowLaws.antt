@@ -1,19 +1,18 @@
 -- What the pieces of a line show, told one after another.
-use Rattle.std.proofs.Common.{◌≡◌, ℕ, ◌+◌, ◌<◌, ◌≤◌, ◌⊎◌, inl, inr, Bool, true, false, List, [], ◌∷◌, ◌++◌, length, drop, get_or, Option, Some, None, Result, Ok, Err, refl, sym, ap, subst, ◌∙◌, append_assoc, arith}
-use Rattle.std.specs.Prelude.{OnOk, IsErrAnd}
+use Rattle.std.proofs.Common.{◌≡◌, ℕ, ◌+◌, ◌<◌, ◌≤◌, ◌⊎◌, inl, inr, false, List, [], ◌∷◌, ◌++◌, length, drop, get_or, Some, None, Result, Ok, Err, sym, ap, subst, ◌∙◌, append_assoc}
+use Rattle.std.specs.Prelude.{IsErrAnd}
 use Rattle.std.specs.List.{flat_map}
 use Rattle.std.proofs.lemmas.List.{drop_more, drop_all}
 use Rattle.ocl_lex.specs.declared.faults.LexFault.{LexFault}
 use Rattle.ocl_lex.specs.declared.faults.LexFault.TheVariants as fault
 use Rattle.ocl_lex.specs.declared.output.Output.{Output}
 use Rattle.ocl_lex.specs.declared.parts.Part.{Part}
-use Rattle.ocl_lex.specs.declared.parts.Part.TheVariants as part
 use Rattle.ocl_lex.specs.declared.pieces.Piece.{Piece}
-use Rattle.ocl_lex.specs.Events.{Event, Show, Stop, Use}
+use Rattle.ocl_lex.specs.Events.{Event, Show, Use}
 use Rattle.ocl_lex.specs.Frames.{inner_events}
 use Rattle.ocl_lex.specs.Lines.{part_events, piece_events}
-use Rattle.ocl_lex.specs.Macros.{Macros, found, replaced, replacement_of, without}
-use Rattle.ocl_lex.specs.Parts.{between, name_of, part_of, token_at}
+use Rattle.ocl_lex.specs.Macros.{Macros, found, replaced, without}
+use Rattle.ocl_lex.specs.Parts.{name_of, part_of, token_at}
 use Rattle.ocl_lex.specs.Telling.{Tells, answer}
 use Rattle.ocl_lex.proofs.ReplacedLaws.{replaced_found, replaced_plain}
 use Rattle.ocl_lex.proofs.TellingLaws.{stop_told}

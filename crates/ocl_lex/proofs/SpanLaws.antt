@@ -1,29 +1,27 @@
 -- The tokens of a text stand in order, each says what its bytes say, and the last is the end.
-use Rattle.std.proofs.Common.{◌≡◌, ℕ, zero, suc, ◌+◌, ◌<◌, ◌≤◌, ◌⊎◌, inl, inr, Bool, true, false, not, if◌then◌else◌, List, [], ◌∷◌, ◌++◌, length, map, Option, Some, None, Result, Ok, Err, refl, sym, ap, subst, ◌∙◌, arith, true≢false}
+use Rattle.std.proofs.Common.{◌≡◌, ℕ, zero, suc, ◌≤◌, ◌⊎◌, inl, inr, Bool, true, false, not, if◌then◌else◌, List, [], ◌∷◌, ◌++◌, length, Option, Some, None, Result, Ok, Err, refl, sym, ap, subst, ◌∙◌, arith, true≢false}
 use Rattle.std.specs.Prelude.{⊤}
 use Rattle.std.specs.List.{flat_map}
-use Rattle.ocl_tokens.specs.declared.marks.Mark.{Mark}
 use Rattle.ocl_tokens.specs.declared.tokens.Token.{Token}
 use Rattle.ocl_tokens.specs.declared.words.Word.{Word}
 use Rattle.ocl_lex.specs.declared.conditions.Condition.{Condition}
 use Rattle.ocl_lex.specs.declared.directives.DirectiveWord.{DirectiveWord}
 use Rattle.ocl_lex.specs.declared.directives.DirectiveWord.TheVariants as word
 use Rattle.ocl_lex.specs.declared.faults.LexFault.{LexFault}
-use Rattle.ocl_lex.specs.declared.literals.Literal.{Literal}
 use Rattle.ocl_lex.specs.declared.parts.Part.{Part}
 use Rattle.ocl_lex.specs.declared.parts.Part.TheVariants as part
 use Rattle.ocl_lex.specs.declared.pieces.Piece.{Piece}
 use Rattle.ocl_lex.specs.declared.pieces.PieceKind.{PieceKind}
 use Rattle.ocl_lex.specs.declared.pieces.PieceKind.TheVariants as kind
 use Rattle.ocl_lex.specs.Events.{Event, Show, Stop, Use, with_front, within}
-use Rattle.ocl_lex.specs.Lines.{Effect, State, condition, define, directive, directive_line, directive_named, effect, end_token, endif, ends, events, faults_in, faults_of, first_state, ifdef, ifndef, is_hash, is_line_end, is_name, is_open_comment, limit, lines, nothing_behind, one_name, onto_line, opens_parameters, part_events, part_shown, piece_events, plain_line, skipped_events, skips, stops, switch, tokens_of, undef}
+use Rattle.ocl_lex.specs.Lines.{Effect, State, define, directive, directive_line, directive_named, effect, end_token, endif, ends, events, faults_in, first_state, is_hash, is_line_end, is_name, is_open_comment, limit, lines, nothing_behind, one_name, onto_line, opens_parameters, part_events, part_shown, piece_events, plain_line, skipped_events, skips, switch, tokens_of}
 use Rattle.ocl_lex.specs.Literals.{literal_of}
 use Rattle.ocl_lex.specs.Macros.{Macros, found, replaced, shows, without}
 use Rattle.ocl_lex.specs.Parts.{between, kind_of, name_of, number_or_bad, part_of, part_of_kind, token_at}
 use Rattle.ocl_lex.specs.Pieces.{pieces_of, text_of}
 use Rattle.ocl_lex.specs.Spans.{Says, StandIn, StandInOrder, Stands, behind, is_end}
-use Rattle.ocl_lex.specs.Words.{name_kind, word_named, word_or_name}
-use Rattle.ocl_lex.proofs.PieceLaws.{IsPlaced, Placed, earlier, pieces_placed}
+use Rattle.ocl_lex.specs.Words.{word_named, word_or_name}
+use Rattle.ocl_lex.proofs.PieceLaws.{IsPlaced, Placed, pieces_placed}
 use Rattle.ocl_lex.proofs.ReplacedLaws.{by_option, replaced_found, replaced_plain}
 use Rattle.ocl_lex.proofs.TableLaws.{by_test}
 

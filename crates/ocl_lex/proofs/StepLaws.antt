@@ -1,20 +1,19 @@
 -- A part of a replacement, told.
-use Rattle.std.proofs.Common.{◌≡◌, ℕ, ◌⊎◌, inl, inr, Bool, true, false, List, [], ◌∷◌, ◌++◌, Option, Some, None, Result, Ok, Err, refl, sym, ap, subst, ◌∙◌, append_assoc}
+use Rattle.std.proofs.Common.{◌≡◌, ℕ, ◌⊎◌, inl, inr, true, List, [], ◌∷◌, ◌++◌, Some, None, Result, Ok, Err, refl, sym, ap, ◌∙◌}
 use Rattle.std.specs.Prelude.{OnOk, IsErrAnd}
 use Rattle.std.specs.Borrow.{Bor}
 use Rattle.ocl_lex.specs.declared.faults.LexFault.{LexFault}
 use Rattle.ocl_lex.specs.declared.faults.LexFault.TheVariants as fault
 use Rattle.ocl_lex.specs.declared.output.Output.{Output}
 use Rattle.ocl_lex.specs.declared.parts.Part.{Part}
-use Rattle.ocl_lex.specs.declared.parts.Part.TheVariants as part
 use Rattle.ocl_lex.specs.declared.pieces.Piece.{Piece}
 use Rattle.ocl_lex.specs.Events.{Event, Show, Use}
-use Rattle.ocl_lex.specs.Frames.{Frames, Opens, StepsOn, inner_events, is_open, pending, seen}
+use Rattle.ocl_lex.specs.Frames.{Frames, StepsOn, inner_events, pending, seen}
 use Rattle.ocl_lex.specs.Macros.{Macros, found, replaced, without}
 use Rattle.ocl_lex.specs.Parts.{name_of, token_at}
 use Rattle.ocl_lex.specs.Telling.{Tells, TellsInFront, answer}
 use Rattle.ocl_lex.proofs.ReplacedLaws.{replaced_found, replaced_plain}
-use Rattle.ocl_lex.proofs.FrameLaws.{pending_push, seen_push}
+use Rattle.ocl_lex.proofs.FrameLaws.{pending_push}
 
 -- what is told in place of some events, one of which is told
 tells_first : {T : Type 0} (r : Result T LexFault) (old new : Output) (e : Event) (before now rest : List Event) → before ≡ e ∷ rest → OnOk r (now ≡ rest)

@@ -1,6 +1,5 @@
 -- The table of a map of names is looked up, changed and cut as the map is.
-use Rattle.std.proofs.Common.{◌≡◌, ℕ, Bool, true, false, cond, List, [], ◌∷◌, Option, Some, None, refl, sym, ap, ◌∙◌}
-use Rattle.std.specs.Prelude.{map}
+use Rattle.std.proofs.Common.{◌≡◌, ℕ, Bool, true, false, List, [], ◌∷◌, Option, refl, ap}
 use Rattle.std.specs.Option.{option_map}
 use Rattle.std.specs.Str.{bytes_eq}
 use Rattle.std.specs.Map.{lookup, remove_entry}
@@ -8,7 +7,6 @@ use Rattle.indexmap.specs.IndexMap.{insert_entry}
 use Rattle.std.specs.declared.alloc.Global.{Global}
 use Rattle.std.specs.declared.vec.Vec.{Vec}
 use Rattle.ocl_lex.specs.declared.parts.Part.{Part}
-use Rattle.ocl_lex.specs.Macros.{Macros}
 use Rattle.ocl_lex.specs.Tables.{table_of}
 
 abbrev pub Entries : Type 0

@@ -1,5 +1,5 @@
 -- The tokens of small texts, computed from the definitions.
-use Rattle.std.proofs.Common.{◌≡◌, ℕ, zero, suc, Bool, true, false, List, [], ◌∷◌, ◌++◌, length, Option, None, Some, Result, Ok, Err, refl}
+use Rattle.std.proofs.Common.{◌≡◌, ℕ, true, false, List, [], ◌∷◌, ◌++◌, Result, Ok, Err, refl}
 use Rattle.std.specs.Prelude.{codes, map}
 use Rattle.vx_base.specs.declared.types.Pos.{Pos}
 use Rattle.ocl_tokens.specs.declared.tokens.Token.{Token}

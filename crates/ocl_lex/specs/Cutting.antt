@@ -1,5 +1,5 @@
 -- What the reader of pieces keeps from byte to byte.
-use Rattle.std.specs.Prelude.{◌≡◌, ℕ, ◌+◌, List, ◌++◌, drop, slice_index}
+use Rattle.std.specs.Prelude.{◌≡◌, ℕ, List, ◌++◌, drop, slice_index}
 use Rattle.ocl_lex.specs.declared.pieces.Piece.{Piece}
 use Rattle.ocl_lex.specs.declared.pieces.Place.{Place}
 use Rattle.ocl_lex.specs.Pieces.{after, cuts, shown_pieces}

@@ -1,5 +1,5 @@
 -- What tokens are made of before macros are replaced.
-use Rattle.std.specs.Prelude.{ℕ, ◌-◌, Bool, true, false, List, [], ◌∷◌, take, drop, Option, None, Some, Result, Ok, Err}
+use Rattle.std.specs.Prelude.{ℕ, ◌-◌, Bool, List, [], take, drop, Option, None, Some, Result, Ok, Err}
 use Rattle.vx_base.specs.declared.types.Pos.{Pos}
 use Rattle.ocl_tokens.specs.declared.tokens.Token.{Token}
 use Rattle.ocl_tokens.specs.declared.tokens.TokenKind.{TokenKind}

@@ -1,6 +1,5 @@
-use Rattle.std.proofs.Common.{◌≡◌, ◌≤◌, ◌<◌, ◌^◌, ◌+◌, ◌*◌, arith, take}
-use Rattle.std.specs.Str.Parse.{digits_value}
-use Rattle.ocl_lex.proofs.Digits.{ReadsDigits, next_value, too_large}
+use Rattle.std.proofs.Common.{arith}
+use Rattle.ocl_lex.proofs.Digits.{next_value, too_large}
 use Rattle.ocl_lex.proofs.literals.value_below.Goals as goal
 
 pub returns-then-value-from : goal.returns-then-value-from

@@ -1,5 +1,3 @@
-use Rattle.std.proofs.Common.{◌≡◌, ◌<◌, ◌^◌, take}
-use Rattle.std.specs.Str.Parse.{digits_value}
 use Rattle.ocl_lex.proofs.Digits.{ReadsDigits}
 use Rattle.ocl_lex.proofs.literals.value_below.Given as goal
 

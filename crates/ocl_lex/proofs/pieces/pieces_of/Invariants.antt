@@ -1,5 +1,3 @@
-use Rattle.std.proofs.Common.{◌≡◌, ◌++◌, drop}
-use Rattle.ocl_lex.specs.Pieces.{cuts, pieces_of, shown_pieces, IsNear}
 use Rattle.ocl_lex.proofs.Walk.{Walks}
 use Rattle.ocl_lex.proofs.pieces.pieces_of.Given as goal
 

@@ -1,4 +1,4 @@
-use Rattle.std.proofs.Common.{◌∷◌, ◌++◌, ap, inr, ◌∙◌}
+use Rattle.std.proofs.Common.{◌++◌, ap, inr, ◌∙◌}
 use Rattle.ocl_lex.specs.Telling.{answer}
 use Rattle.ocl_lex.specs.declared.faults.LexFault.TheVariants as fault
 use Rattle.ocl_lex.proofs.DoingLaws.{stays_open}

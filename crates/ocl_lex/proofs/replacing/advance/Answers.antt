@@ -1,7 +1,4 @@
-use Rattle.std.proofs.Common.{◌≡◌, ◌++◌, ◌∷◌, [], sym, ap, ◌∙◌, List}
-use Rattle.ocl_lex.specs.Events.{Event}
-use Rattle.ocl_lex.specs.Frames.{pending, seen}
-use Rattle.ocl_lex.specs.Macros.{replaced}
+use Rattle.std.proofs.Common.{◌++◌, sym, ap, ◌∙◌}
 use Rattle.ocl_lex.specs.Telling.{answer}
 use Rattle.ocl_lex.proofs.FrameLaws.{none_open, opened_at_end, pending_close, pending_part}
 use Rattle.ocl_lex.proofs.StepLaws.{passes_fault}
