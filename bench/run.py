@@ -6,8 +6,9 @@
                       another; after rt ci or, in crates/front_speed, rt run has built that program
   bench/run.py ports  millions of stores a second to shared words, by one to four threads; after rt ci or, in crates/port_steps,
                       rt run has built that program
-  bench/run.py lanes  millions of lane instructions a second of one warp with 1, 8 and 32 active lanes in a straight arithmetic
-                      loop, to reach 100 with 32; after rt ci or, in crates/lane_steps, rt run has built that program
+  bench/run.py lanes  millions of lane instructions a second of processor time of one warp with 1, 8 and 32 active lanes in a
+                      straight arithmetic loop, to reach 100 with 32; after rt ci or, in crates/lane_steps, rt run has built
+                      that program
 
 The peak is never below that of the interpreter that starts the program, about 14 MiB.
 """
@@ -105,13 +106,22 @@ def ports():
     return 0
 
 
+def processor_seconds_of(program, *numbers):
+    child = subprocess.Popen([program] + [str(number) for number in numbers])
+    _, status, usage = os.wait4(child.pid, 0)
+    if os.waitstatus_to_exitcode(status) != 0:
+        sys.exit("bench: %s failed" % os.path.basename(program))
+    return usage.ru_utime + usage.ru_stime
+
+
 def lanes():
-    """What starting up takes is measured without instructions, and taken off."""
+    """A warp runs on one core, so its processor time is counted, and other programs on the machine are not. What starting up
+    takes is measured without instructions, and taken off."""
     if not os.access(LANE_STEPS, os.X_OK):
         sys.exit("bench: lane_steps is not built: run rt run -- 1 0 in crates/lane_steps once")
     print("%-8s %24s %24s" % ("lanes", "warp instructions, M/s", "lane instructions, M/s"))
     for count in (1, 8, 32):
-        taken = seconds_of(LANE_STEPS, count, WARP_STEPS) - seconds_of(LANE_STEPS, count, 0)
+        taken = processor_seconds_of(LANE_STEPS, count, WARP_STEPS) - processor_seconds_of(LANE_STEPS, count, 0)
         rate = WARP_STEPS / taken / 1e6
         print("%-8d %24.1f %24.1f" % (count, rate, count * rate))
     return 0
