@@ -11,8 +11,8 @@ ghost use Rattle.ocl_lex.specs.Telling.{Tells};
 
 use crate::faults::LexFault;
 use crate::macros::Macros;
-use crate::output::{Output, count_use, show};
-use crate::parts::{Part, between, part_of, token_at};
+use crate::output::{Output, count_use, show_part};
+use crate::parts::{Part, between, part_of};
 use crate::pieces::{Piece, PieceKind};
 use crate::replacing::replace;
 use std::alloc::Global;
@@ -47,20 +47,6 @@ fn show_use(
     replace(alloc, text, macros, at, out, name, body)
 }
 
-/// Shows a part of the text as a token.
-fn show_part(
-    alloc: Global,
-    text: &[u8],
-    at: Piece,
-    out: &mut Output,
-    part: Part,
-) -> Result<(), LexFault>
-    ensures { Tells result out.old out.new (Show (token_at text.now false at part) ∷ []) }
-{
-    let token = token_at(alloc, text, false, at, part)?;
-    show(out, token)
-}
-
 /// Shows what a part of the text shows, macros replaced.
 fn show_replaced(
     alloc: Global,
@@ -74,7 +60,7 @@ fn show_replaced(
 {
     match use_of(text, macros, part) {
         Some((name, body)) => show_use(alloc, text, macros, at, out, name, body),
-        None => show_part(alloc, text, at, out, part),
+        None => show_part(alloc, text, false, at, out, part),
     }
 }
 
