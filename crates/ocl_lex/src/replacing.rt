@@ -1,10 +1,10 @@
 //! Macros replaced: what a use of a macro shows.
 ghost use Rattle.std.specs.Prelude.{◌≡◌, ◌++◌, ◌∷◌, [], ◌+◌, ◌-◌, ◌*◌, ◌<◌, true, false, length, OnOk, IfOk, IfSome};
 ghost use Rattle.indexmap.specs.IndexMap.{index_map_len, set_value_at};
-ghost use Rattle.ocl_lex.specs.Events.{Show, Use};
+ghost use Rattle.ocl_lex.specs.Events.{Use};
 ghost use Rattle.ocl_lex.specs.Frames.{IsInnermost, Opens, StepsOn, inner_events, is_open, pending, seen};
 ghost use Rattle.ocl_lex.specs.Macros.{found, without};
-ghost use Rattle.ocl_lex.specs.Parts.{name_of, token_at};
+ghost use Rattle.ocl_lex.specs.Parts.{name_of};
 ghost use Rattle.ocl_lex.specs.Telling.{Tells, TellsInFront};
 
 use crate::faults::LexFault;

@@ -1,12 +1,12 @@
 //! What a line that is no directive shows.
-ghost use Rattle.std.specs.Prelude.{◌∷◌, [], true, false};
+ghost use Rattle.std.specs.Prelude.{◌∷◌, false};
 ghost use Rattle.std.specs.List.{flat_map};
 ghost use Rattle.ocl_lex.specs.Doing.{Raises};
-ghost use Rattle.ocl_lex.specs.Events.{Show, Use};
+ghost use Rattle.ocl_lex.specs.Events.{Use};
 ghost use Rattle.ocl_lex.specs.Frames.{Opens, inner_events};
 ghost use Rattle.ocl_lex.specs.Lines.{piece_events, skipped_events};
 ghost use Rattle.ocl_lex.specs.Macros.{found, replaced, without};
-ghost use Rattle.ocl_lex.specs.Parts.{name_of, token_at};
+ghost use Rattle.ocl_lex.specs.Parts.{name_of};
 ghost use Rattle.ocl_lex.specs.Telling.{Tells};
 
 use crate::faults::LexFault;
