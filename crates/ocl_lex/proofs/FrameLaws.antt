@@ -1,10 +1,13 @@
 -- Replacements opened and closed at the end of a list of them.
-use Rattle.std.proofs.Common.{◌≡◌, ℕ, Bool, true, false, List, [], ◌∷◌, ◌++◌, length, None, refl, sym, ap, subst, ◌∙◌, arith, append_assoc, append-nil, true≢false}
+use Rattle.std.proofs.Common.{◌≡◌, ℕ, ◌+◌, ◌-◌, ◌<◌, suc, Option, Some, take, Bool, true, false, List, [], ◌∷◌, ◌++◌, length, None, refl, sym, ap, subst, ◌∙◌, arith, append_assoc, append-nil, true≢false}
+use Rattle.std.specs.Prelude.{slice_get, if◌then◌else◌}
 use Rattle.std.specs.Borrow.{Bor}
-use Rattle.std.specs.Option.{is_some}
+use Rattle.std.specs.Option.{is_some, option_to_list}
 use Rattle.std.specs.Str.{bytes_eq}
 use Rattle.std.specs.Map.{lookup}
-use Rattle.indexmap.specs.IndexMap.{insert_entry}
+use Rattle.indexmap.specs.IndexMap.{insert_entry, set_value_at}
+use Rattle.std.proofs.lemmas.List.{length-append}
+use Rattle.std.proofs.Math.Seq.{take-append_seam}
 use Rattle.std.proofs.lemmas.Slice.Eq.{bytes_eq-Decides}
 use Rattle.ocl_lex.specs.declared.parts.Part.{Part}
 use Rattle.ocl_lex.specs.declared.pieces.Piece.{Piece}
@@ -133,3 +136,42 @@ pending_part text at macros old frames opened name parts rest p split first push
     ∙ append_assoc (replaced text (without name.now (seen macros frames)) true at p) (inner_events text at (without name.now (seen macros frames)) rest.now) (pending text at macros frames)
     ∙ ap (λ l. replaced text (without name.now (seen macros frames)) true at p ++ l) (sym three)
     ∙ ap (λ ms. replaced text ms true at p ++ pending text at macros opened) (sym four)
+
+-- ---- the last of a list
+
+same_front : {A : Type 0} (xs ys : List A) (x y : A) → xs ++ x ∷ [] ≡ ys ++ y ∷ [] → xs ≡ ys
+same_front xs ys x y e =
+    let one : length (xs ++ x ∷ []) ≡ length xs + 1 = length-append xs (x ∷ []) in
+    let two : length (ys ++ y ∷ []) ≡ length ys + 1 = length-append ys (y ∷ []) in
+    let len : length xs ≡ length ys = omega (arith, ap length e) in
+    sym (take-append_seam xs (x ∷ [])) ∙ ap (take (length xs)) e ∙ ap (λ n. take n (ys ++ y ∷ [])) len ∙ take-append_seam ys (y ∷ [])
+
+pub closes_last : (old new outer : Frames) (f : Bor (List ℕ) × Bor (List Part)) (popped : Option (Bor (List ℕ) × Bor (List Part)))
+    → old ≡ outer ++ f ∷ [] → old ≡ new ++ option_to_list popped → length new + (if is_some popped then 1 else 0) ≡ length old → (0 < length old → is_some popped ≡ true) → outer ≡ new
+closes_last old new outer f (Some g) split pops len found = same_front outer new f g (sym split ∙ pops)
+closes_last old new outer f None split pops len found =
+    let more : 0 < length old = omega (arith, ap length split, length-append outer (f ∷ [])) in
+    absurd (true≢false (sym (found more)))
+
+set_at_end : (outer : Frames) (name : Bor (List ℕ)) (parts rest : Bor (List Part)) → set_value_at (outer ++ (name, parts) ∷ []) (length outer) rest ≡ outer ++ (name, rest) ∷ []
+set_at_end [] name parts rest = refl
+set_at_end (f ∷ outer) name parts rest = ap (λ l. f ∷ l) (set_at_end outer name parts rest)
+
+pub left_at_end : (old outer : Frames) (name : Bor (List ℕ)) (parts rest : Bor (List Part)) → old ≡ outer ++ (name, parts) ∷ []
+    → set_value_at old (length old - 1) rest ≡ outer ++ (name, rest) ∷ []
+left_at_end old outer name parts rest split =
+    let len : length old - 1 ≡ length outer = omega (arith, ap length split, length-append outer ((name, parts) ∷ [])) in
+    ap (λ n. set_value_at old n rest) len ∙ ap (λ l. set_value_at l (length outer) rest) split ∙ set_at_end outer name parts rest
+
+pub last_of : (frames : Frames) (name : Bor (List ℕ)) (parts : Bor (List Part)) → Some (name, parts) ≡ slice_get frames (length frames - 1)
+    → (outer : Frames) × (n : Bor (List ℕ)) × (frames ≡ outer ++ (n, parts) ∷ [])
+last_of [] name parts h = cc
+last_of (f ∷ []) name parts h =
+    let here : Some (name, parts) ≡ Some f = h in
+    let same : f ≡ (name, parts) = cc in
+    ([], name, ap (λ g. g ∷ []) same)
+last_of (f ∷ g ∷ frames) name parts h =
+    let len : length (f ∷ g ∷ frames) - 1 ≡ suc (length (g ∷ frames) - 1) = omega arith in
+    let more : Some (name, parts) ≡ slice_get (g ∷ frames) (length (g ∷ frames) - 1) = h ∙ ap (slice_get (f ∷ g ∷ frames)) len in
+    let rest : (outer : Frames) × (n : Bor (List ℕ)) × (g ∷ frames ≡ outer ++ (n, parts) ∷ []) = last_of (g ∷ frames) name parts more in
+    (f ∷ rest.0, rest.1, ap (λ l. f ∷ l) rest.2)

@@ -42,3 +42,8 @@ Opens (Some f) name found = (found ≡ Some f.1.now) × (f.0.now ≡ name)
 abbrev pub StepsOn : {T : Type 0} → Result T LexFault → List ℕ → Piece → Macros → Output → Frames → Part → Output → Frames → Type 0
 StepsOn result text at macros old frames part new frames_new =
     TellsInFront result old (replaced text (seen macros frames) true at part ++ pending text at macros frames) new (pending text at macros frames_new)
+
+-- what is left of the innermost replacement
+abbrev pub IsInnermost : Option (Bor (List Part)) → Frames → Type 0
+IsInnermost None frames = frames ≡ []
+IsInnermost (Some parts) frames = (outer : Frames) × (name : Bor (List ℕ)) × (frames ≡ outer ++ (name, parts) ∷ [])

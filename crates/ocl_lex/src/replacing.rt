@@ -1,16 +1,16 @@
 //! Macros replaced: what a use of a macro shows.
-ghost use Rattle.std.specs.Prelude.{◌≡◌, ◌++◌, ◌∷◌, [], ◌+◌, ◌*◌, ◌<◌, true, false, OnOk, IfOk, IfSome};
-ghost use Rattle.indexmap.specs.IndexMap.{index_map_len};
-ghost use Rattle.ocl_lex.specs.Events.{Show, Use};
-ghost use Rattle.ocl_lex.specs.Frames.{Opens, StepsOn, inner_events, is_open, pending, seen};
+ghost use Rattle.std.specs.Prelude.{◌≡◌, ◌++◌, ◌∷◌, [], ◌+◌, ◌-◌, ◌*◌, ◌<◌, true, false, length, OnOk, IfOk, IfSome};
+ghost use Rattle.indexmap.specs.IndexMap.{index_map_len, set_value_at};
+ghost use Rattle.ocl_lex.specs.Events.{Use};
+ghost use Rattle.ocl_lex.specs.Frames.{IsInnermost, Opens, StepsOn, inner_events, is_open, pending, seen};
 ghost use Rattle.ocl_lex.specs.Macros.{found, without};
-ghost use Rattle.ocl_lex.specs.Parts.{name_of, token_at};
+ghost use Rattle.ocl_lex.specs.Parts.{name_of};
 ghost use Rattle.ocl_lex.specs.Telling.{Tells, TellsInFront};
 
 use crate::faults::LexFault;
 use crate::macros::Macros;
-use crate::output::{Output, count_use, show};
-use crate::parts::{Part, between, token_at};
+use crate::output::{Output, count_use, show_part};
+use crate::parts::{Part, between};
 use crate::pieces::Piece;
 use indexmap::IndexMap;
 use std::alloc::Global;
@@ -57,21 +57,6 @@ fn open_macro<'a>(
     Ok(())
 }
 
-/// Shows a part of a replacement as a token.
-fn show_made(
-    alloc: Global,
-    text: &[u8],
-    at: Piece,
-    out: &mut Output,
-    part: Part,
-) -> Result<(), LexFault>
-    ensures tells { Tells result out.old out.new (Show (token_at text.now true at part) ∷ []) }
-    ensures less { OnOk result (out.new.left < out.old.left) }
-{
-    let token = token_at(alloc, text, true, at, part)?;
-    show(out, token)
-}
-
 /// Shows a part of the innermost open replacement, or opens the replacement of the macro that it uses.
 fn tell_part<'a>(
     alloc: Global,
@@ -87,7 +72,27 @@ fn tell_part<'a>(
 {
     match to_open(text, macros, frames, part) {
         Some((name, body)) => open_macro(at.pos, out, frames, name, body),
-        None => show_made(alloc, text, at, out, part),
+        None => show_part(alloc, text, true, at, out, part),
+    }
+}
+
+/// What is left of the innermost open replacement.
+fn innermost<'a>(frames: &IndexMap<&'a [u8], &'a [Part]>) -> Option<&'a [Part]>
+    ensures { IsInnermost result frames.now.entries }
+{
+    match frames.last() {
+        Some((_name, parts)) => Some(*parts),
+        None => None,
+    }
+}
+
+/// Leaves some parts of the innermost open replacement, in place of those that were left.
+fn set_innermost<'a>(frames: &mut IndexMap<&'a [u8], &'a [Part]>, parts: &'a [Part])
+    ensures entries { frames.new.entries ≡ set_value_at frames.old.entries (length frames.old.entries - 1) parts.entry }
+    ensures len { index_map_len frames.new ≡ index_map_len frames.old }
+{
+    if let Some(left) = frames.last_mut() {
+        *left = parts;
     }
 }
 
@@ -104,13 +109,14 @@ fn advance<'a>(
     ensures last { IfOk result (λ more. more ≡ false → frames.new.entries ≡ []) }
     ensures less { IfOk result (λ more. more ≡ true → 2 * out.new.left + index_map_len frames.new < 2 * out.old.left + index_map_len frames.old) }
 {
-    let Some((name, parts)) = frames.pop() else {
+    let Some(parts) = innermost(frames) else {
         return Ok(false);
     };
     let Some((part, rest)) = parts.split_first() else {
+        let _closed = frames.pop();
         return Ok(true);
     };
-    frames.insert(name, rest)?;
+    set_innermost(frames, rest);
     tell_part(alloc, text, macros, at, out, frames, *part)?;
     Ok(true)
 }

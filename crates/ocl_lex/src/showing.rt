@@ -1,18 +1,18 @@
 //! What a line that is no directive shows.
-ghost use Rattle.std.specs.Prelude.{◌∷◌, [], true, false};
+ghost use Rattle.std.specs.Prelude.{◌∷◌, false};
 ghost use Rattle.std.specs.List.{flat_map};
 ghost use Rattle.ocl_lex.specs.Doing.{Raises};
-ghost use Rattle.ocl_lex.specs.Events.{Show, Use};
+ghost use Rattle.ocl_lex.specs.Events.{Use};
 ghost use Rattle.ocl_lex.specs.Frames.{Opens, inner_events};
 ghost use Rattle.ocl_lex.specs.Lines.{piece_events, skipped_events};
 ghost use Rattle.ocl_lex.specs.Macros.{found, replaced, without};
-ghost use Rattle.ocl_lex.specs.Parts.{name_of, token_at};
+ghost use Rattle.ocl_lex.specs.Parts.{name_of};
 ghost use Rattle.ocl_lex.specs.Telling.{Tells};
 
 use crate::faults::LexFault;
 use crate::macros::Macros;
-use crate::output::{Output, count_use, show};
-use crate::parts::{Part, between, part_of, token_at};
+use crate::output::{Output, count_use, show_part};
+use crate::parts::{Part, between, part_of};
 use crate::pieces::{Piece, PieceKind};
 use crate::replacing::replace;
 use std::alloc::Global;
@@ -47,20 +47,6 @@ fn show_use(
     replace(alloc, text, macros, at, out, name, body)
 }
 
-/// Shows a part of the text as a token.
-fn show_part(
-    alloc: Global,
-    text: &[u8],
-    at: Piece,
-    out: &mut Output,
-    part: Part,
-) -> Result<(), LexFault>
-    ensures { Tells result out.old out.new (Show (token_at text.now false at part) ∷ []) }
-{
-    let token = token_at(alloc, text, false, at, part)?;
-    show(out, token)
-}
-
 /// Shows what a part of the text shows, macros replaced.
 fn show_replaced(
     alloc: Global,
@@ -74,7 +60,7 @@ fn show_replaced(
 {
     match use_of(text, macros, part) {
         Some((name, body)) => show_use(alloc, text, macros, at, out, name, body),
-        None => show_part(alloc, text, at, out, part),
+        None => show_part(alloc, text, false, at, out, part),
     }
 }
 

@@ -8,4 +8,4 @@ returns-in-Some-clause-steps c =
 
 pub returns-in-None-clause-steps : goal.returns-in-None-clause-steps
 returns-in-None-clause-steps c =
-    steps_show c.show_made.result c.args.text.now c.args.at c.args.macros.now c.args.out.now c.show_made.new.out c.args.frames.now.entries c.args.part c.in-None.ensures.opens c.show_made.ensures.tells
+    steps_show c.show_part.result c.args.text.now c.args.at c.args.macros.now c.args.out.now c.show_part.new.out c.args.frames.now.entries c.args.part c.in-None.ensures.opens c.show_part.ensures.tells

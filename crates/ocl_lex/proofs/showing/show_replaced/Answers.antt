@@ -7,4 +7,4 @@ returns-in-Some c =
     c.in-Some.ensures.0 c.in-Some.ensures.1 c.show_use.ensures
 
 pub returns-in-None : goal.returns-in-None
-returns-in-None c = tells_plain c.show_part.result c.args.text.now c.args.macros.now c.args.at c.args.out.now c.show_part.new.out c.args.part c.in-None.ensures c.show_part.ensures
+returns-in-None c = tells_plain c.show_part.result c.args.text.now c.args.macros.now c.args.at c.args.out.now c.show_part.new.out c.args.part c.in-None.ensures c.show_part.ensures.tells
