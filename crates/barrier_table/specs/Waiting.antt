@@ -1,6 +1,6 @@
 -- The barriers of a core, as the sets of warps that wait at each. A set of warps is a number: warp k is in it where bit k
 -- is 1.
-use Rattle.std.specs.Prelude.{ℕ, ◌^◌, nat_le, if◌then◌else◌, List, [], ◌∷◌, slice_index, slice_set, bit_or, count_ones}
+use Rattle.std.specs.Prelude.{ℕ, ◌^◌, nat_le, if◌then◌else◌, List, fold, slice_index, slice_set, bit_or, count_ones}
 use Rattle.barrier_table.specs.declared.Arrived.{Arrived}
 use Rattle.barrier_table.specs.declared.Arrived.TheVariants.{Released, Held}
 
@@ -24,5 +24,4 @@ barriers_after barriers bar warp count =
 
 -- the warps that wait at any barrier
 abbrev pub all_waiting : List ℕ → ℕ
-all_waiting [] = 0
-all_waiting (warps ∷ barriers) = bit_or warps (all_waiting barriers)
+all_waiting barriers = fold bit_or 0 barriers

@@ -71,11 +71,7 @@ impl Barriers {
     pub fn waiting(&self) -> u32
         ensures { result ≡ all_waiting self.now }
     {
-        let mut warps = 0;
-        for set in self.waiting.iter().rev() {
-            warps = *set | warps;
-        }
-        warps
+        self.waiting.iter().fold(0, |warps, set| warps | *set)
     }
 
     /// Lets no warp wait any more.
@@ -97,7 +93,12 @@ mod tests {
         assert_eq!(rt; barriers.arrive(15, 7, 2), Arrived::Held);
         assert_eq!(rt; barriers.arrive(3, 4, 3), Arrived::Held);
         assert_eq!(rt; barriers.waiting(), 0b1001_0001);
-        assert_eq!(rt; barriers.arrive(3, 15, 3), Arrived::Released { warps: 0b1000_0000_0001_0001 });
+        assert_eq!(rt;
+            barriers.arrive(3, 15, 3),
+            Arrived::Released {
+                warps: 0b1000_0000_0001_0001
+            }
+        );
         assert_eq!(rt; barriers.waiting(), 0b1000_0000);
         assert_eq!(rt; barriers.arrive(3, 1, 1), Arrived::Released { warps: 0b10 });
         assert_eq!(rt; barriers.arrive(3, 1, 0), Arrived::Released { warps: 0b10 });
