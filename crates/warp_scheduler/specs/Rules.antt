@@ -31,6 +31,10 @@ abbrev pub below : ℕ → List ℕ
 below zero = []
 below (suc n) = below n ++ n ∷ []
 
+-- each warp stands somewhere
+abbrev pub HasAll : List ℕ → Type 0
+HasAll order = (j : ℕ) → j < 32 → Contains order j
+
 -- All warps stand in the order of their last picks; those that were never picked stand in front, in ascending order. The
 -- first ready one is picked, and then stands last.
 pub record TakesOldest (order : List ℕ) (ready k : ℕ) (now : List ℕ) : Type 0 where
@@ -57,7 +61,18 @@ pub record IsAtPlace (ready place k : ℕ) : Type 0 where
   pub is_ready : IsBitSet ready k
   pub so_many_below : count_below ready k ≡ place
 
+-- a seed, and the generator of the group that began last
+pub record Drawing : Type 0 where
+  pub seed : ℕ
+  pub generator : Lcg
+
+-- the group that begins has the generator of the seed and its number
+pub record BeginsDrawing (before : Drawing) (group : ℕ) (after : Drawing) : Type 0 where
+  pub same_seed : after.seed ≡ before.seed
+  pub begun : after.generator ≡ generator_of before.seed group
+
 -- the generator's next word, modulo the number of ready warps, is the place of the pick
-pub record TakesDrawn (generator : Lcg) (ready k : ℕ) (now : Lcg) : Type 0 where
-  pub place : IsAtPlace ready ((pcg32 generator).0 % count_below ready 32) k
-  pub moved : now ≡ (pcg32 generator).1
+pub record DrawsWarp (before : Drawing) (ready k : ℕ) (after : Drawing) : Type 0 where
+  pub place : IsAtPlace ready ((pcg32 before.generator).0 % count_below ready 32) k
+  pub same_seed : after.seed ≡ before.seed
+  pub moved : after.generator ≡ (pcg32 before.generator).1

@@ -1,4 +1,4 @@
-ghost use Rattle.std.specs.Prelude.{◌≡◌, ◌≢◌, ◌<◌, MatchBool};
+ghost use Rattle.std.specs.Prelude.{◌≡◌, ◌≢◌, ◌<◌, nat_eq};
 ghost use Rattle.std.specs.Int.{IsBitSet, bit_at};
 
 /// A policy by which a core picks a warp for each step. Contracts say which policy stands before a call and which after.
@@ -24,9 +24,12 @@ pub trait Picker {
 }
 
 /// Whether a warp is in a set.
+#[tactic(auto, using(std::proofs::lemmas::Nat::Bits::bit_at_above))]
 pub(crate) fn is_ready(ready: u32, warp: u32) -> bool
-    requires { warp < 32 }
-    ensures { MatchBool result (bit_at ready warp ≡ 1) (bit_at ready warp ≡ 0) }
+    ensures { result ≡ nat_eq (bit_at ready warp) 1 }
 {
+    if warp >= 32 {
+        return false;
+    }
     ready >> warp & 1 == 1
 }

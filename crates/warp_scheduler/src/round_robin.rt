@@ -32,7 +32,7 @@ impl RoundRobin {
     }
 }
 
-#[tactic(auto, using(crate::proofs::PickLaws::least_above, crate::proofs::PickLaws::none_above))]
+#[tactic(auto, using(crate::proofs::PickLaws::picks_above, crate::proofs::PickLaws::picks_around))]
 fn next_from(ready: u32, from: u32) -> u32
     requires some { ready ≢ 0 }
     requires from { from ≤ 32 }
