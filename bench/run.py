@@ -2,8 +2,12 @@
 """Runs the built program on stated inputs, and prints wall time and peak memory as a table.
 
   bench/run.py        after ./vx has built the program once
+  bench/run.py front  texts of 1,048,576 bytes from bytes to tokens: names, punctuators, uses of macros, and macros that stand in one
+                      another; after rt ci or, in crates/front_speed, rt run has built that program
   bench/run.py ports  millions of stores a second to shared words, by one to four threads; after rt ci or, in crates/port_steps,
                       rt run has built that program
+  bench/run.py lanes  millions of lane instructions a second of one warp with 1, 8 and 32 active lanes in a straight arithmetic
+                      loop, to reach 100 with 32; after rt ci or, in crates/lane_steps, rt run has built that program
 
 The peak is never below that of the interpreter that starts the program, about 14 MiB.
 """
@@ -17,7 +21,10 @@ import time
 TOP = os.path.dirname(os.path.dirname(os.path.abspath(__file__)))
 PROGRAM = os.path.join(TOP, "crates", "vx", "out", "vx")
 PORT_STEPS = os.path.join(TOP, "crates", "port_steps", "out", "port_steps")
+LANE_STEPS = os.path.join(TOP, "crates", "lane_steps", "out", "lane_steps")
+FRONT_SPEED = os.path.join(TOP, "crates", "front_speed", "out", "front_speed")
 STEPS = 20_000_000
+WARP_STEPS = 10_000_000
 LIMIT = 1_048_576
 
 
@@ -66,18 +73,21 @@ def disassembly(folder):
     return ["dis", "a.hex"]
 
 
+def run_once(words, folder, output=subprocess.DEVNULL):
+    begun = time.monotonic()
+    child = subprocess.Popen(words, cwd=folder, stdout=output)
+    _, status, usage = os.wait4(child.pid, 0)
+    return os.waitstatus_to_exitcode(status), time.monotonic() - begun, usage.ru_maxrss / 1024
+
+
 def measure(make):
     with tempfile.TemporaryDirectory() as folder:
-        words = make(folder)
-        begun = time.monotonic()
-        child = subprocess.Popen([PROGRAM] + words, cwd=folder, stdout=subprocess.DEVNULL)
-        _, status, usage = os.wait4(child.pid, 0)
-        return os.waitstatus_to_exitcode(status), time.monotonic() - begun, usage.ru_maxrss / 1024
+        return run_once([PROGRAM] + make(folder), folder)
 
 
-def seconds_of(threads, steps, apart):
+def seconds_of(program, *numbers):
     begun = time.monotonic()
-    subprocess.run([PORT_STEPS, str(threads), str(steps), str(apart)], check=True)
+    subprocess.run([program] + [str(number) for number in numbers], check=True)
     return time.monotonic() - begun
 
 
@@ -89,15 +99,44 @@ def ports():
     for threads in range(1, 5):
         rates = []
         for apart in (16, 0):
-            taken = seconds_of(threads, STEPS, apart) - seconds_of(threads, 0, apart)
+            taken = seconds_of(PORT_STEPS, threads, STEPS, apart) - seconds_of(PORT_STEPS, threads, 0, apart)
             rates.append(threads * STEPS / taken / 1e6)
         print("%-8d %20.1f %20.1f" % (threads, rates[0], rates[1]))
+    return 0
+
+
+def lanes():
+    """What starting up takes is measured without instructions, and taken off."""
+    if not os.access(LANE_STEPS, os.X_OK):
+        sys.exit("bench: lane_steps is not built: run rt run -- 1 0 in crates/lane_steps once")
+    print("%-8s %24s %24s" % ("lanes", "warp instructions, M/s", "lane instructions, M/s"))
+    for count in (1, 8, 32):
+        taken = seconds_of(LANE_STEPS, count, WARP_STEPS) - seconds_of(LANE_STEPS, count, 0)
+        rate = WARP_STEPS / taken / 1e6
+        print("%-8d %24.1f %24.1f" % (count, rate, count * rate))
+    return 0
+
+
+def front():
+    if not os.access(FRONT_SPEED, os.X_OK):
+        sys.exit("bench: front_speed is not built: run rt run -- names 1000 in crates/front_speed once")
+    print("%-8s %8s %10s %10s %10s %12s" % ("text", "status", "bytes", "tokens", "seconds", "peak MiB"))
+    for kind in ("names", "marks", "uses", "nested"):
+        with tempfile.TemporaryFile() as output:
+            status, seconds, peak = run_once([FRONT_SPEED, kind, str(LIMIT)], None, output)
+            output.seek(0)
+            said = output.read().decode().split() or ["", ""]
+        print("%-8s %8d %10s %10s %10.3f %12.1f" % (kind, status, said[0], said[1], seconds, peak))
     return 0
 
 
 def main():
     if sys.argv[1:] == ["ports"]:
         return ports()
+    if sys.argv[1:] == ["lanes"]:
+        return lanes()
+    if sys.argv[1:] == ["front"]:
+        return front()
     if not os.access(PROGRAM, os.X_OK):
         sys.exit("bench: the program is not built: run ./vx once")
     print("%-12s %8s %10s %12s" % ("input", "status", "seconds", "peak MiB"))

@@ -1,7 +1,7 @@
 -- Reading words line after line, as a loop does, and reading back what is written.
-use Rattle.std.proofs.Common.{◌≡◌, ℕ, zero, suc, ◌+◌, ◌-◌, ◌*◌, ◌/◌, ◌%◌, ◌^◌, ◌<◌, ◌≤◌, ◌⊎◌, Bool, true, false, List, [], ◌∷◌, ◌++◌, length, refl, sym, ap, ◌∙◌, append_assoc, arith}
+use Rattle.std.proofs.Common.{◌≡◌, ℕ, zero, suc, ◌+◌, ◌/◌, ◌%◌, ◌^◌, ◌<◌, ◌≤◌, true, false, List, [], ◌∷◌, ◌++◌, length, refl, sym, ap, ◌∙◌, append_assoc, arith}
 use Rattle.std.specs.Prelude.{nat_lt, ◌==◌, slice_index, EachIndex, Result, Ok, Err}
-use Rattle.std.specs.Int.{to_be_bytes, from_be_bytes, w32}
+use Rattle.std.specs.Int.{to_be_bytes, w32}
 use Rattle.std.specs.List.{position_or_len}
 use Rattle.std.proofs.lemmas.Nat.{from_be_bytes-to_be_bytes_4}
 use Rattle.hex.specs.Hex.{IsBytes, decode_sized, encode_lower, encode_with, lower_digits}
@@ -12,7 +12,7 @@ use Rattle.std.proofs.lemmas.List.{append-nil}
 use Rattle.asm_text.specs.declared.hexadecimal.HexFault.{HexFault}
 use Rattle.asm_text.specs.declared.hexadecimal.HexFault.TheVariants.{TooLarge}
 use Rattle.asm_text.specs.Lines.{lines}
-use Rattle.asm_text.specs.HexLines.{most_words, hex_line, hex_lines, hex_word, word_or_fault, word_before, hex_words_from}
+use Rattle.asm_text.specs.HexLines.{most_words, hex_lines, hex_word, word_or_fault, word_before, hex_words_from}
 use Rattle.asm_text.proofs.LineLaws.{by_test, line_before}
 
 -- what was read before, and what is still read
@@ -70,8 +70,8 @@ among (b ∷ t) none zero = by_test (b == 10) (λ e. absurd (omega (arith, rw e 
 among (b ∷ t) none (suc k) = by_test (b == 10)
     (λ e. absurd (omega (arith, rw e at none)))
     (λ e.
-      let more : position_or_len (λ b. b == 10) t ≡ length t = omega (arith, rw e at none) in
-      among t more k)
+    let more : position_or_len (λ b. b == 10) t ≡ length t = omega (arith, rw e at none) in
+    among t more k)
 
 no_feed_at : (k : ℕ) → (slice_index lower_digits k == 10) ≡ false
 no_feed_at k = among lower_digits refl k
@@ -114,9 +114,9 @@ words_read_back n (w ∷ ws) few small =
     let head : hex_word n (encode_lower (to_be_bytes w32 w)) ≡ Ok w = word_reads_back n w (small 0 (omega arith)) in
     let tail : hex_words_from (n + 1) (lines (hex_lines ws)) ≡ Ok ws = words_read_back (n + 1) ws (omega arith) (λ k lt. small (suc k) (omega arith)) in
     let one : hex_words_from n (lines (hex_lines (w ∷ ws))) ≡ word_before n (Ok w) (Ok ws) =
-      at_line n (hex_lines (w ∷ ws)) (encode_lower (to_be_bytes w32 w)) (hex_lines ws) (first_line w ws)
-      ∙ ap (λ (r : Result ℕ HexFault). word_before n r (hex_words_from (n + 1) (lines (hex_lines ws)))) head
-      ∙ ap (λ (r : Result (List ℕ) HexFault). word_before n (Ok w) r) tail in
+    at_line n (hex_lines (w ∷ ws)) (encode_lower (to_be_bytes w32 w)) (hex_lines ws) (first_line w ws)
+    ∙ ap (λ (r : Result ℕ HexFault). word_before n r (hex_words_from (n + 1) (lines (hex_lines ws)))) head
+    ∙ ap (λ (r : Result (List ℕ) HexFault). word_before n (Ok w) r) tail in
     let two : word_before n (Ok w) (Ok ws) ≡ Ok (w ∷ ws) = rw test refl in
     one ∙ two
 

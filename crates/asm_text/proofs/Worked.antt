@@ -1,9 +1,8 @@
 -- The definitions on small texts.
-use Rattle.std.proofs.Common.{◌≡◌, ℕ, List, [], ◌∷◌, ◌++◌, refl}
-use Rattle.std.specs.Prelude.{codes, Result, Ok, Err}
+use Rattle.std.proofs.Common.{◌≡◌, ℕ, [], ◌∷◌, ◌++◌, refl}
+use Rattle.std.specs.Prelude.{codes, Ok, Err}
 use Rattle.vx_base.specs.declared.types.Pos.{Pos}
-use Rattle.asm_text.specs.declared.statements.AsmFault.{AsmFault}
-use Rattle.asm_text.specs.declared.statements.AsmFault.TheVariants.{Syntax, Range, NoLabel, LabelTwice, TooLarge}
+use Rattle.asm_text.specs.declared.statements.AsmFault.TheVariants.{Syntax, Range}
 use Rattle.asm_text.specs.Lines.{lines}
 use Rattle.asm_text.specs.AsmLines.{register_number_at, register_at, digits_at, size_at, number_at, part_at, parts_at, mnemonic_named, known_bytes, statement_at, ended, rest_of_line, named_line, line_of}
 use Rattle.asm_text.specs.AsmTexts.{assembled, place_of, counted, labels_from, words_of_line, words_from}

@@ -1,10 +1,9 @@
 -- The words of a text of assembly, and its faults.
-use Rattle.std.specs.Prelude.{ℕ, ◌+◌, ◌-◌, ◌*◌, ◌%◌, ◌^◌, ◌==◌, nat_lt, Bool, true, false, is_some, if◌then◌else◌, List, [], ◌∷◌, ◌++◌, length, take, drop, Option, Some, None, Result, Ok, Err}
+use Rattle.std.specs.Prelude.{ℕ, ◌+◌, ◌-◌, ◌*◌, ◌%◌, ◌^◌, ◌==◌, Bool, true, is_some, if◌then◌else◌, List, [], ◌∷◌, ◌++◌, length, take, drop, Option, Some, None, Result, Ok, Err}
 use Rattle.std.specs.Str.{bytes_eq}
 use Rattle.vx_base.specs.declared.types.Pos.{Pos}
 use Rattle.vx_isa.specs.declared.instr.Instr.{Instr}
 use Rattle.vx_isa.specs.Words.{word_of, fits_of}
-use Rattle.asm_text.specs.declared.mnemonics.Operands.{Operands}
 use Rattle.asm_text.specs.declared.statements.Span.{Span}
 use Rattle.asm_text.specs.declared.statements.Statement.{Statement}
 use Rattle.asm_text.specs.declared.statements.Line.{Line}

@@ -1,9 +1,10 @@
 use Rattle.std.specs.Prelude.{ℕ, ◌+◌, nat_lt, min, if◌then◌else◌, List, [], ◌∷◌, ◌++◌, Result, Ok, Err}
 use Rattle.std.specs.List.{flat_map, prefix_len}
 use Rattle.std.specs.Int.{from_be_bytes, to_be_bytes, w32}
-use Rattle.hex.specs.Hex.{encode_lower, decode_sized, is_hex_digit}
+pub use Rattle.hex.specs.Hex.{encode_lower, lower_digits}
+unfoldable pub use Rattle.hex.specs.Hex.{encode_with}
+use Rattle.hex.specs.Hex.{decode_sized, is_hex_digit}
 use Rattle.hex.specs.declared.error.FromHexError.{FromHexError}
-use Rattle.vx_base.specs.declared.types.Pos.{Pos}
 use Rattle.asm_text.specs.Lines.{lines}
 use Rattle.asm_text.specs.declared.hexadecimal.HexFault.{HexFault}
 use Rattle.asm_text.specs.declared.hexadecimal.HexFault.TheVariants.{Syntax, TooLarge}

@@ -6,7 +6,6 @@ use Rattle.asm_text.specs.declared.mnemonics.Mnemonic.{Mnemonic}
 use Rattle.asm_text.specs.declared.mnemonics.Mnemonic.TheVariants.{Lui, Auipc, Jal, Jalr, Beq, Bne, Blt, Bge, Bltu, Bgeu, Lb, Lh, Lw, Lbu, Lhu, Sb, Sh, Sw, Addi, Slti, Sltiu, Xori, Ori, Andi, Slli, Srli, Srai, Add, Sub, Sll, Slt, Sltu, Xor, Srl, Sra, Or, And, Mul, Mulh, Mulhsu, Mulhu, Div, Divu, Rem, Remu, Fence, Ebreak, Csrr, Tmc, Wspawn, Split, Join, Bar, Pred, Word}
 use Rattle.asm_text.specs.declared.mnemonics.Form.{Form}
 use Rattle.asm_text.specs.declared.mnemonics.Form.TheVariants as form
-use Rattle.asm_text.specs.declared.mnemonics.Field.{Field}
 use Rattle.asm_text.specs.declared.mnemonics.Field.TheVariants as field
 use Rattle.asm_text.specs.declared.mnemonics.Part.{Part}
 use Rattle.asm_text.specs.declared.mnemonics.Part.TheVariants.{Register, Number, Place, Comma, Open, Close}

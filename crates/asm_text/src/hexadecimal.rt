@@ -45,8 +45,8 @@ impl<T: Drop> From<AllocFailed<T>> for HexFault {
     }
 }
 
-/// Puts the line of a word behind a text.
-fn push_line(text: &mut Vec<u8>, word: u32) -> Result<(), AllocError>
+/// Puts the line of a word, eight digits and a line feed, behind a text.
+pub fn push_hex_line(text: &mut Vec<u8>, word: u32) -> Result<(), AllocError>
     ensures { OnOk result (text.new.items ≡ text.old.items ++ hex_line word) }
 {
     let mut digits = [0; 8];
@@ -61,7 +61,7 @@ pub fn hex_text(alloc: Global, words: &[u32]) -> Result<Text, Memory>
 {
     let mut items = Vec::new(alloc);
     for word in words {
-        push_line(&mut items, *word)?;
+        push_hex_line(&mut items, *word)?;
     }
     Ok(Text { items })
 }
@@ -93,8 +93,7 @@ fn word_of_line(number: u32, line: &[u8]) -> Result<u32, HexFault>
 pub fn reads_back()
     ensures { (words : List ℕ) → length words ≤ 65536 → EachIndex words (λ k. slice_index words k < 2 ^ 32)
         → hex_words_of (hex_lines words) ≡ Ok words }
-{
-}
+{}
 
 /// The words of a text of hexadecimal lines. Digits of either case are read, and the last line feed may be missing.
 ///
@@ -111,7 +110,10 @@ pub fn hex_words(alloc: Global, text: &[u8]) -> Result<WordList, HexFault>
         let word = word_of_line(number, line)?;
         if number > MOST_WORDS {
             return Err(HexFault::TooLarge {
-                pos: Pos { line: number, col: 1 },
+                pos: Pos {
+                    line: number,
+                    col: 1,
+                },
                 words: number,
             });
         }

@@ -1,6 +1,6 @@
 -- What digits say is small enough for a word of 64 bits.
-use Rattle.std.proofs.Common.{◌≡◌, ℕ, zero, suc, ◌+◌, ◌*◌, ◌^◌, ◌<◌, ◌≤◌, ◌⊎◌, inl, inr, Bool, true, false, List, [], ◌∷◌, length, take, min, refl, sym, ap, ◌∙◌, arith, add-one}
-use Rattle.std.specs.Prelude.{slice_index, nat_lt}
+use Rattle.std.proofs.Common.{◌≡◌, ℕ, zero, suc, ◌+◌, ◌*◌, ◌^◌, ◌<◌, ◌≤◌, ◌⊎◌, inl, inr, Bool, true, false, List, [], ◌∷◌, length, take, refl, sym, arith}
+use Rattle.std.specs.Prelude.{slice_index}
 use Rattle.std.specs.Char.{is_digit, digit_value}
 use Rattle.std.specs.List.{prefix_len}
 use Rattle.std.specs.Str.Parse.{digits_value, AllDigits}
@@ -30,9 +30,9 @@ are_digits base zero bytes within = tt
 are_digits base (suc n) [] within = absurd (omega arith)
 are_digits base (suc n) (b ∷ bytes) within = by_test (is_digit b base)
     (λ t.
-      let more : n ≤ prefix_len (λ c. is_digit c base) bytes = omega (arith, rw t at within) in
-      let here : digit_value b < base = grind (arith, nat_tests) in
-      (here, are_digits base n bytes more))
+    let more : n ≤ prefix_len (λ c. is_digit c base) bytes = omega (arith, rw t at within) in
+    let here : digit_value b < base = grind (arith, nat_tests) in
+    (here, are_digits base n bytes more))
     (λ t. absurd (omega (arith, rw t at within)))
 
 at_most : (base k v : ℕ) → 1 ≤ base → base ^ 10 ≤ 2 ^ 40 → k ≤ 10 → v < base ^ k → v < 2 ^ 64

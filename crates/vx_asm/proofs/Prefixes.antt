@@ -1,5 +1,5 @@
 -- How far the front of a list goes.
-use Rattle.std.proofs.Common.{◌≡◌, ℕ, zero, suc, ◌+◌, ◌<◌, ◌≤◌, Bool, true, false, List, [], ◌∷◌, length, take, drop, min, max, refl, sym, ap, ◌∙◌, arith, add-one}
+use Rattle.std.proofs.Common.{◌≡◌, ℕ, ◌+◌, ◌<◌, ◌≤◌, Bool, true, false, List, [], ◌∷◌, length, take, drop, min, max, refl, arith}
 use Rattle.std.specs.Prelude.{slice_index, nat_eq, nat_le, get_or}
 use Rattle.std.specs.List.{prefix_len, common_prefix_len}
 use Rattle.std.proofs.lemmas.List.{take_min, drop_more, drop_all}
@@ -53,17 +53,17 @@ pub common_ends : (a b : List ℕ) (k place total : ℕ) → k ≡ min (length a
     → total ≡ place + common_prefix_len nat_eq (drop place a) (drop place b) → k ≡ total
 common_ends a b k place total least low high so_far = by_test (nat_le (length a) (length b))
     (λ t.
-      let shorter : length a ≤ length b = grind (arith, nat_tests) in
-      let past : length a ≤ place = omega arith in
-      let none : drop place a ≡ [] = drop_all place a past in
-      let zero : common_prefix_len nat_eq (drop place a) (drop place b) ≡ 0 = rw none refl in
-      omega arith)
+    let shorter : length a ≤ length b = grind (arith, nat_tests) in
+    let past : length a ≤ place = omega arith in
+    let none : drop place a ≡ [] = drop_all place a past in
+    let zero : common_prefix_len nat_eq (drop place a) (drop place b) ≡ 0 = rw none refl in
+    omega arith)
     (λ t.
-      let shorter : length b < length a = grind (arith, nat_tests) in
-      let past : length b ≤ place = omega arith in
-      let none : drop place b ≡ [] = drop_all place b past in
-      let zero : common_prefix_len nat_eq (drop place a) (drop place b) ≡ 0 = rw none (none_behind (drop place a)) in
-      omega arith)
+    let shorter : length b < length a = grind (arith, nat_tests) in
+    let past : length b ≤ place = omega arith in
+    let none : drop place b ≡ [] = drop_all place b past in
+    let zero : common_prefix_len nat_eq (drop place a) (drop place b) ≡ 0 = rw none (none_behind (drop place a)) in
+    omega arith)
 
 -- ---- how far a word begins one of some mnemonics
 

@@ -5,7 +5,18 @@
 //!
 //! - `parts`: blanks, names, registers and numbers.
 //! - `lines`: statements and whole lines.
+//! - `labels`: the table of labels.
+//! - `listing`: the labels and the statements of a whole text.
+//! - `assembly`: the words, and [`assemble`].
 #![tactic(auto)]
 
-pub mod lines;
-pub mod parts;
+pub mod assembly;
+mod labels;
+mod lines;
+mod listing;
+mod parts;
+
+pub use assembly::assemble;
+
+#[cfg(test)]
+mod tests;

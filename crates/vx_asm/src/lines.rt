@@ -6,7 +6,9 @@ ghost use Rattle.asm_text.specs.AsmLines as spec;
 ghost use Rattle.asm_text.specs.AsmLines.{Says};
 ghost use Rattle.asm_text.specs.Mnemonics.{all_mnemonics};
 
-use crate::parts::{begins_name, byte_at, bytes_from, front_of, name_len, number_at, past_blanks, register_at};
+use crate::parts::{
+    begins_name, byte_at, bytes_from, front_of, name_len, number_at, past_blanks, register_at,
+};
 use asm_text::mnemonics::ALL;
 use asm_text::{Field, Line, Mnemonic, Number, Operands, Part, Span, Statement};
 
@@ -58,7 +60,11 @@ fn word_of_number(number: Number) -> u32
     ensures { result ≡ spec.word_of_number number }
 {
     let size = number.size as u32;
-    if number.minus { size.wrapping_neg() } else { size }
+    if number.minus {
+        size.wrapping_neg()
+    } else {
+        size
+    }
 }
 
 /// The statement with one operand more.
@@ -137,7 +143,7 @@ fn part_at(part: Part, statement: Statement, bytes: &[u8]) -> Result<(Statement,
 }
 
 /// A statement before its operands are read.
-fn bare(mnemonic: Mnemonic) -> Statement
+fn bare_statement(mnemonic: Mnemonic) -> Statement
     ensures { result ≡ spec.bare mnemonic }
 {
     Statement {
@@ -156,7 +162,7 @@ fn bare(mnemonic: Mnemonic) -> Statement
 fn operands_at(mnemonic: Mnemonic, bytes: &[u8]) -> Result<(Statement, &[u8]), usize>
     ensures { Says result (spec.operands_at mnemonic bytes.now) }
 {
-    let mut statement = bare(mnemonic);
+    let mut statement = bare_statement(mnemonic);
     let mut rest = bytes;
     let parts = mnemonic.form().parts();
     for part in parts {
@@ -232,7 +238,11 @@ fn ends(bytes: &[u8]) -> bool
 
 /// The line with all that was read, if it ends here.
 #[tactic(auto, unfolding(asm_text::specs::AsmLines::ended))]
-fn ended(label: Option<Span>, statement: Option<Statement>, bytes: &[u8]) -> Result<Line, usize>
+fn finish_line(
+    label: Option<Span>,
+    statement: Option<Statement>,
+    bytes: &[u8],
+) -> Result<Line, usize>
     ensures { result ≡ spec.ended label statement bytes.now }
 {
     let behind = past_blanks(bytes);
@@ -255,7 +265,7 @@ fn rest_of_line(label: Option<Span>, bytes: &[u8]) -> Result<Line, usize>
         });
     }
     let (statement, rest) = statement_at(start)?;
-    ended(label, Some(statement), rest)
+    finish_line(label, Some(statement), rest)
 }
 
 /// A line that begins with a name: a label before `:`, or a mnemonic.
@@ -277,7 +287,7 @@ fn named_line(bytes: &[u8]) -> Result<Line, usize>
         return Err(behind.len());
     };
     let (statement, rest) = operands_at(mnemonic, rest)?;
-    ended(None, Some(statement), rest)
+    finish_line(None, Some(statement), rest)
 }
 
 /// What a line says, or how many bytes are left from the first one on that no line goes on with.

@@ -181,7 +181,10 @@ fn digits_at(bytes: &[u8], base: u32) -> Result<(u64, &[u8]), usize>
     if len == 0 {
         return Err(bytes.len());
     }
-    Ok((value_of(&bytes[..len], u64::from(base)), bytes_from(bytes, len)))
+    Ok((
+        value_of(&bytes[..len], u64::from(base)),
+        bytes_from(bytes, len),
+    ))
 }
 
 #[tactic(auto, unfolding(asm_text::specs::AsmLines::size_at))]

@@ -9,7 +9,7 @@ use Rattle.asm_text.specs.declared.statements.AsmFault.{AsmFault}
 use Rattle.asm_text.specs.declared.statements.AsmFault.TheVariants as asm
 use Rattle.asm_text.specs.AsmTexts.{assembled}
 use Rattle.asm_text.specs.HexLines.{hex_lines, hex_words_of}
-use Rattle.asm_text.specs.Disassembly.{disassembly}
+use Rattle.vx_disasm.specs.Texts.{lines_text}
 use Rattle.vx_run.specs.declared.report.Cause.{Cause}
 use Rattle.vx_run.specs.declared.report.Cause.TheVariants.{Source, ReadFault, Missing}
 use Rattle.vx_run.specs.declared.report.SourceKind.TheVariants as kind
@@ -88,7 +88,7 @@ assembly_prints limit bytes words seen text few e same is =
     GoodText text few (ap assembly_outcome e ∙ ap Prints (ap hex_lines (sym same) ∙ sym is))
 
 -- the words of a text are printed as an assembly text
-pub words_print : (limit : ℕ) (bytes words seen text : List ℕ) → length bytes ≤ limit → hex_words_of bytes ≡ Ok words → seen ≡ words → text ≡ disassembly seen →
+pub words_print : (limit : ℕ) (bytes words seen text : List ℕ) → length bytes ≤ limit → hex_words_of bytes ≡ Ok words → seen ≡ words → text ≡ lines_text seen →
     FromBytes limit word_text_outcome bytes (Prints text)
 words_print limit bytes words seen text few e same is =
-    GoodText text few (ap disassembly_outcome e ∙ ap Prints (ap disassembly (sym same) ∙ sym is))
+    GoodText text few (ap disassembly_outcome e ∙ ap Prints (ap lines_text (sym same) ∙ sym is))

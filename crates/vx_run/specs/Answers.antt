@@ -17,7 +17,7 @@ use Rattle.asm_text.specs.declared.statements.AsmFault.{AsmFault}
 use Rattle.asm_text.specs.declared.statements.AsmFault.TheVariants as asm
 use Rattle.asm_text.specs.AsmTexts.{assembled}
 use Rattle.asm_text.specs.HexLines.{hex_lines, hex_words_of}
-use Rattle.asm_text.specs.Disassembly.{disassembly}
+use Rattle.vx_disasm.specs.Texts.{lines_text}
 use Rattle.vx_run.specs.declared.report.SourceKind.{SourceKind}
 use Rattle.vx_run.specs.declared.report.SourceKind.TheVariants as source
 use Rattle.vx_run.specs.declared.report.LaunchKind.TheVariants as launch
@@ -112,7 +112,7 @@ assembly_outcome (Ok words) = Prints (hex_lines words)
 assembly_outcome (Err fault) = Refuses (asm_cause fault)
 
 abbrev pub disassembly_outcome : Result (List ℕ) HexFault → Outcome
-disassembly_outcome (Ok words) = Prints (disassembly words)
+disassembly_outcome (Ok words) = Prints (lines_text words)
 disassembly_outcome (Err fault) = Refuses (hex_cause fault)
 
 abbrev pub assembly_text_outcome : List ℕ → Outcome

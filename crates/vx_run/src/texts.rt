@@ -9,9 +9,11 @@ ghost use Rattle.vx_run.specs.Stages.{ComesTo, IsPlain, StageFaults, StageMisses
 use crate::reading::read_file;
 use crate::report::{Cause, SourceKind};
 use crate::stages::Stop;
-use asm_text::{AsmFault, HexFault, assemble, disassemble, hex_text, hex_words};
+use asm_text::{AsmFault, HexFault, hex_text, hex_words};
 use std::alloc::Global;
+use vx_asm::assemble;
 use vx_base::{Pos, Text};
+use vx_disasm::disassemble;
 use vx_world::Files;
 
 /// The most bytes that an assembly text may have.

@@ -16,7 +16,8 @@ fn run_of(alloc: Global, line: &str) -> Result<Option<RunWords>, AllocError> {
     let words = words_of(alloc, line)?;
     match read_words(alloc, words.as_slice()) {
         Ok(Command::Run(run)) => Ok(Some(run)),
-        _ => Ok(None),
+        Ok(_other) => Ok(None),
+        Err(_fault) => Ok(None),
     }
 }
 
@@ -33,12 +34,14 @@ fn reads_commands_of_one_file(rt: HostRuntime) -> Result<(), Fail> {
     let words = words_of(rt.alloc(), "asm a.s")?;
     match read_words(rt.alloc(), words.as_slice()) {
         Ok(Command::Asm { file }) => assert_eq!(rt; file.items.as_slice(), b"a.s".as_slice()),
-        _ => assert!(rt; false),
+        Ok(_other) => assert!(rt; false),
+        Err(_fault) => assert!(rt; false),
     }
     let words = words_of(rt.alloc(), "dis a.hex")?;
     match read_words(rt.alloc(), words.as_slice()) {
         Ok(Command::Dis { file }) => assert_eq!(rt; file.items.as_slice(), b"a.hex".as_slice()),
-        _ => assert!(rt; false),
+        Ok(_other) => assert!(rt; false),
+        Err(_fault) => assert!(rt; false),
     }
     Ok(())
 }

@@ -16,9 +16,10 @@ returns-then-number-gt-MOST_WORDS-clause-fault c =
     inr (is_too_large c.loop-rest.number c.loop-rest.items.items c.loop-rest.rest.now c.cut_line.result.0.now c.cut_line.result.1.now c.in_ok-word.word (hex_words_of c.args.text.now) c.cut_line.ensures.cut (sym c.in_ok-word.ensures) (omega arith) c.loop-rest.invariant.1)
 
 pub loop-rest-preserved : goal.loop-rest-preserved
-loop-rest-preserved c =
-    (omega arith,
-    rw c.in_ok-push.ensures.items (goes_on c.loop-rest.number c.loop-rest.items.items c.loop-rest.rest.now c.cut_line.result.0.now c.cut_line.result.1.now c.in_ok-word.word (hex_words_of c.args.text.now) c.cut_line.ensures.cut (sym c.in_ok-word.ensures) (omega arith) c.loop-rest.invariant.1))
+loop-rest-preserved c = (
+  omega arith,
+  rw c.in_ok-push.ensures.items (goes_on c.loop-rest.number c.loop-rest.items.items c.loop-rest.rest.now c.cut_line.result.0.now c.cut_line.result.1.now c.in_ok-word.word (hex_words_of c.args.text.now) c.cut_line.ensures.cut (sym c.in_ok-word.ensures) (omega arith) c.loop-rest.invariant.1),
+)
 
 pub returns-clause-words : goal.returns-clause-words
 returns-clause-words c =

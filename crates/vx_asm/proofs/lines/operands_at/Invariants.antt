@@ -1,5 +1,4 @@
 use Rattle.std.proofs.Common.{◌≡◌, drop}
-use Rattle.asm_text.specs.Mnemonics.{form_of, parts_of}
 use Rattle.asm_text.specs.AsmLines.{parts_at, operands_at}
 use Rattle.vx_asm.proofs.lines.operands_at.Given as goal
 

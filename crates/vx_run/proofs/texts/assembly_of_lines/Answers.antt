@@ -8,7 +8,7 @@ returns-then-text-gt-WORD_TEXT_LIMIT-clause-comes c = long_stops most_word_text 
 
 pub returns-in_ok-disassemble-in-Ok-clause-comes : goal.returns-in_ok-disassemble-in-Ok-clause-comes
 returns-in_ok-disassemble-in-Ok-clause-comes c =
-    words_print most_word_text c.args.text.now _ _ _ c.if-text-gt-WORD_TEXT_LIMIT.false c.in-Ok.ensures.words c.as_slice.ensures c.in_ok-disassemble-in-Ok.ensures
+    words_print most_word_text c.args.text.now _ _ _ c.if-text-gt-WORD_TEXT_LIMIT.false c.in-Ok.ensures.words c.as_slice.ensures c.in_ok-disassemble-in-Ok.ensures.text
 
 pub returns-in-Err-clause-comes : goal.returns-in-Err-clause-comes
 returns-in-Err-clause-comes c =

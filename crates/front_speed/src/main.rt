@@ -1,0 +1,96 @@
+//! The program `front_speed`: takes the tokens of a text that it makes, for measurements of speed (`bench/`). Its words are
+//! what the text is made of, `names`, `marks`, `uses` (of macros that use others) or `nested` (macros that stand deep in one
+//! another), and how many bytes it has at most, up to 1,048,576. It prints the bytes and the tokens.
+#![tactic(auto)]
+
+use ocl_lex::{LexFault, lex};
+use std::alloc::{AllocError, Global};
+use std::env;
+use std::process::ExitCode;
+
+/// What a text is made of.
+#[derive(Clone, Copy, PartialEq, Eq)]
+enum Kind {
+    Names,
+    Marks,
+    Uses,
+    Nested,
+}
+
+fn kind_of(word: &str) -> Option<Kind> {
+    match word {
+        "names" => Some(Kind::Names),
+        "marks" => Some(Kind::Marks),
+        "uses" => Some(Kind::Uses),
+        "nested" => Some(Kind::Nested),
+        _ => None,
+    }
+}
+
+/// A text with one piece again and again behind its head.
+fn repeated(alloc: Global, head: &[u8], piece: &[u8], bytes: usize) -> Result<Vec<u8>, AllocError> {
+    let mut text = Vec::from_slice(alloc, head)?;
+    for _ in 0..bytes {
+        if text.len() > bytes.saturating_sub(piece.len()) {
+            break;
+        }
+        text.extend_from_slice(piece)?;
+    }
+    Ok(text)
+}
+
+/// A text of macros of which each uses the next, and a use of the first.
+fn chained(alloc: Global, bytes: usize) -> Result<Vec<u8>, AllocError> {
+    let mut text = Vec::new(alloc);
+    for number in 0..100_000 {
+        let next = number + 1;
+        let line = format!(in alloc; "#define m{number} m{next}\n")?;
+        if text.len() > bytes.saturating_sub(line.len()).saturating_sub(2) {
+            break;
+        }
+        text.extend_from_slice(line.as_bytes())?;
+    }
+    text.extend_from_slice(b"m0")?;
+    Ok(text)
+}
+
+fn make_text(alloc: Global, kind: Kind, bytes: usize) -> Result<Vec<u8>, AllocError> {
+    match kind {
+        Kind::Names => repeated(alloc, b"", b"ab cd_1\n", bytes),
+        Kind::Marks => repeated(alloc, b"", b"-- ;", bytes),
+        Kind::Uses => repeated(alloc, b"#define A B\n#define B c\n", b"A  ", bytes),
+        Kind::Nested => chained(alloc, bytes),
+    }
+}
+
+/// How many tokens a text has.
+fn count_tokens(alloc: Global, text: &[u8]) -> Result<usize, LexFault> {
+    if text.len() > 1_048_576 {
+        return Ok(0);
+    }
+    let tokens = lex(alloc, text)?;
+    Ok(tokens.len())
+}
+
+fn main(rt: HostRuntime) -> ExitCode {
+    let Ok(mut words) = env::args(&rt) else {
+        return ExitCode::from(9);
+    };
+    let _program = words.next();
+    let (Some(kind), Some(bytes)) = (words.next(), words.next()) else {
+        return ExitCode::from(2);
+    };
+    let (Some(kind), Ok(bytes)) = (kind_of(kind.as_str()), bytes.as_str().parse::<usize>()) else {
+        return ExitCode::from(2);
+    };
+    let Ok(text) = make_text(rt.alloc(), kind, bytes) else {
+        return ExitCode::from(9);
+    };
+    let Ok(tokens) = count_tokens(rt.alloc(), text.as_slice()) else {
+        return ExitCode::from(3);
+    };
+    match println!(rt; "{} {tokens}", text.len()) {
+        Ok(()) => ExitCode::from(0),
+        Err(_error) => ExitCode::from(9),
+    }
+}

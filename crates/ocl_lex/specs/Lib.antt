@@ -1,0 +1,15 @@
+pub mod Bytes
+pub mod Marks
+pub mod Words
+pub mod Literals
+pub mod Pieces
+pub mod Parts
+pub mod Events
+pub mod Macros
+pub mod Lines
+pub mod Tables
+pub mod Telling
+pub mod Frames
+pub mod Doing
+pub mod Spans
+pub mod Cutting

@@ -1,0 +1,5 @@
+pub mod PrintedLines
+pub mod PrintedNumbers
+pub mod PrintedParts
+pub mod PrintedRows
+pub mod PrintedTexts

@@ -1,0 +1,4 @@
+pub mod ActLaws
+pub mod Going
+pub mod IdleLanes
+pub mod StepLaws
