@@ -1,5 +1,5 @@
 -- Which ready warp each policy picks. A set of warps is a number: warp k is in it where bit k is 1.
-use Rattle.std.specs.Prelude.{◌≡◌, ℕ, zero, suc, ◌+◌, ◌%◌, ◌<◌, ◌≤◌, List, [], ◌∷◌, ◌++◌, nat_eq, if◌then◌else◌, Contains}
+use Rattle.std.specs.Prelude.{◌≡◌, ℕ, zero, suc, ◌+◌, ◌%◌, ◌<◌, ◌≤◌, List, [], ◌∷◌, ◌++◌, Some, nat_eq, Contains, position, remove, slice_index}
 use Rattle.std.specs.Int.{IsBitSet, bit_at}
 use Rattle.vx_base.specs.Masks.{IsLeastBit}
 use Rattle.rand_pcg.specs.Lcg.{Lcg, started, increment_of}
@@ -19,10 +19,10 @@ pub data PicksInTurn (from ready k : ℕ) : Type 0 where
   Above : IsLeastFrom ready from k → PicksInTurn from ready k
   Around : ((j : ℕ) → from ≤ j → ¬ IsBitSet ready j) → IsLeastBit ready k → PicksInTurn from ready k
 
--- a pick leaves the number above it
+-- a pick leaves the number above it, and 0 above 31
 pub record TakesTurn (from ready k now : ℕ) : Type 0 where
   pub picks : PicksInTurn from ready k
-  pub next : now ≡ k + 1
+  pub next : now ≡ (k + 1) % 32
 
 -- ---- the oldest first
 
@@ -38,12 +38,10 @@ HasAll order = (j : ℕ) → j < 32 → Contains order j
 -- All warps stand in the order of their last picks; those that were never picked stand in front, in ascending order. The
 -- first ready one is picked, and then stands last.
 pub record TakesOldest (order : List ℕ) (ready k : ℕ) (now : List ℕ) : Type 0 where
-  pub before : List ℕ
-  pub behind : List ℕ
-  pub place : order ≡ before ++ k ∷ behind
-  pub is_ready : IsBitSet ready k
-  pub none_before : (j : ℕ) → Contains before j → ¬ IsBitSet ready j
-  pub last : now ≡ before ++ behind ++ k ∷ []
+  pub place : ℕ
+  pub first : position (λ warp. nat_eq (bit_at ready warp) 1) order ≡ Some place
+  pub picked : k ≡ slice_index order place
+  pub last : now ≡ remove order place ++ k ∷ []
 
 -- ---- by a seed
 

@@ -16,3 +16,6 @@ pub use oldest_first::OldestFirst;
 pub use picker::Picker;
 pub use round_robin::RoundRobin;
 pub use seeded::SeededPick;
+
+#[cfg(test)]
+mod tests;

@@ -1,5 +1,5 @@
-ghost use Rattle.std.specs.Prelude.{◌≡◌, ◌≢◌, ◌^◌, ◌<◌, ℕ, take, length, slice_index, Contains};
-ghost use Rattle.std.specs.Int.{IsBitSet};
+ghost use Rattle.std.specs.Prelude.{◌≡◌, ◌≢◌, ◌<◌, ◌++◌, ◌∷◌, [], Some, length, nat_eq, position, remove, slice_index};
+ghost use Rattle.std.specs.Int.{IsBitSet, bit_at};
 ghost use Rattle.warp_scheduler.specs.Rules.{below, HasAll};
 
 use crate::picker::{Picker, is_ready};
@@ -15,7 +15,7 @@ const ASCENDING: [u32; WARPS] = [
 /// The ready warp that was picked longest ago; those that were never picked go first, the least before the others.
 ///
 /// Contracts see it as the list of all warps in the order of their last picks, those never picked in front.
-#[derive(Clone, Debug, Drop)]
+#[derive(Debug, Drop)]
 pub struct OldestFirst {
     order: [u32; WARPS],
 }
@@ -41,19 +41,34 @@ impl OldestFirst {
 }
 
 // The place of the first ready warp.
-#[tactic(auto, using(crate::proofs::PickLaws::ready_stands))]
-fn first_ready(order: &[u32; WARPS], ready: u32) -> usize
+fn first_ready(order: &[u32; WARPS], ready: u32) -> Option<usize>
+    ensures { result ≡ position (λ warp. nat_eq (bit_at ready warp) 1) order.now }
+{
+    order.iter().position(|warp| is_ready(ready, *warp))
+}
+
+// The same, where all warps stand in the order and one is ready.
+fn place_of_first(order: &[u32; WARPS], ready: u32) -> usize
     requires all { HasAll order.now }
     requires some { ready ≢ 0 }
-    requires word { ready < 2 ^ 32 }
+    ensures first { position (λ warp. nat_eq (bit_at ready warp) 1) order.now ≡ Some result }
     ensures within { result < length order.now }
-    ensures is_ready { IsBitSet ready (slice_index order.now result) }
-    ensures none_before { (j : ℕ) → Contains (take result order.now) j → ¬ IsBitSet ready j }
+    ensures ready { IsBitSet ready (slice_index order.now result) }
 {
-    order
-        .iter()
-        .position(|warp| is_ready(ready, *warp))
-        .unwrap_or(0)
+    match first_ready(order, ready) {
+        Some(place) => place,
+        None => 0,
+    }
+}
+
+// The warp at a place goes behind all others.
+fn move_last(order: &mut [u32; WARPS], place: usize)
+    requires all { HasAll order.old }
+    requires place { place < length order.old }
+    ensures last { order.new ≡ remove order.old place ++ slice_index order.old place ∷ [] }
+    ensures all { HasAll order.new }
+{
+    order[place..].rotate_left(1);
 }
 
 impl Picker for OldestFirst {
@@ -69,9 +84,9 @@ impl Picker for OldestFirst {
     }
 
     fn pick(&mut self, ready: u32) -> u32 {
-        let place = first_ready(&self.order, ready);
+        let place = place_of_first(&self.order, ready);
         let warp = self.order[place];
-        self.order[place..].rotate_left(1);
+        move_last(&mut self.order, place);
         warp
     }
 }

@@ -24,7 +24,7 @@ pub trait Picker {
 }
 
 /// Whether a warp is in a set.
-#[tactic(auto, using(std::proofs::lemmas::Nat::Bits::bit_at_above))]
+#[tactic(auto, using(crate::proofs::OrderLaws::no_warp))]
 pub(crate) fn is_ready(ready: u32, warp: u32) -> bool
     ensures { result ≡ nat_eq (bit_at ready warp) 1 }
 {

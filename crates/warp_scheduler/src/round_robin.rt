@@ -1,4 +1,5 @@
-ghost use Rattle.std.specs.Prelude.{◌≡◌, ◌≢◌, ◌≤◌};
+ghost use Rattle.std.specs.Prelude.{◌≡◌, ◌≢◌, ◌<◌};
+ghost use Rattle.std.specs.Int.{IsBitSet};
 ghost use Rattle.warp_scheduler.specs.Rules.{PicksInTurn};
 
 use crate::picker::Picker;
@@ -8,19 +9,19 @@ use vx_base::least;
 /// Each ready warp in turn: the least above the last one that was picked, and where there is none the least of all.
 ///
 /// Contracts see it as the number to look from.
-#[derive(Clone, Debug, Drop)]
+#[derive(Debug, Drop)]
 pub struct RoundRobin {
     from: u32,
 }
 
 impl Model for RoundRobin {
-    ghost use Rattle.std.specs.Prelude.{ℕ, ◌≤◌};
+    ghost use Rattle.std.specs.Prelude.{ℕ, ◌<◌};
 
     ghost Value = { ℕ };
 
     ghost view = { λ r. r.from };
 
-    ghost invariant = { λ r. r.from ≤ 32 };
+    ghost invariant = { λ r. r.from < 32 };
 }
 
 impl RoundRobin {
@@ -32,15 +33,17 @@ impl RoundRobin {
     }
 }
 
-#[tactic(auto, using(crate::proofs::PickLaws::picks_above, crate::proofs::PickLaws::picks_around))]
+// The warp whose turn it is.
 fn next_from(ready: u32, from: u32) -> u32
     requires some { ready ≢ 0 }
-    requires from { from ≤ 32 }
-    ensures { PicksInTurn from ready result }
+    requires from { from < 32 }
+    ensures picks { PicksInTurn from ready result }
+    ensures ready { IsBitSet ready result }
+    ensures word { result < 32 }
 {
-    match least((u64::from(ready) >> from) as u32) {
+    match least(ready >> from) {
         Some(steps) => from + steps,
-        None => least(ready).unwrap_or(0),
+        None => ready.trailing_zeros(),
     }
 }
 
@@ -58,7 +61,7 @@ impl Picker for RoundRobin {
 
     fn pick(&mut self, ready: u32) -> u32 {
         let warp = next_from(ready, self.from);
-        self.from = warp + 1;
+        self.from = (warp + 1) % 32;
         warp
     }
 }

@@ -10,7 +10,7 @@ use std::marker::Model;
 /// ascending order. A new generator is made of the seed and the group where a group begins.
 ///
 /// Contracts see it as the seed and the generator.
-#[derive(Clone, Debug, Drop)]
+#[derive(Debug, Drop)]
 pub struct SeededPick {
     seed: u64,
     generator: Lcg64Xsh32,
