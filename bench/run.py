@@ -131,7 +131,7 @@ def front():
     if not os.access(FRONT_SPEED, os.X_OK):
         sys.exit("bench: front_speed is not built: run rt run -- names 1000 in crates/front_speed once")
     print("%-8s %8s %10s %10s %10s %12s" % ("text", "status", "bytes", "tokens", "seconds", "peak MiB"))
-    for kind in ("names", "marks", "uses", "nested"):
+    for kind in ("names", "marks", "uses", "nested", "undefs"):
         with tempfile.TemporaryFile() as output:
             status, seconds, peak = run_once([FRONT_SPEED, kind, str(LIMIT)], None, output)
             output.seek(0)

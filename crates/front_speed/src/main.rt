@@ -1,6 +1,6 @@
 //! The program `front_speed`: takes the tokens of a text that it makes, for measurements of speed (`bench/`). Its words are
-//! what the text is made of, `names`, `marks`, `uses` (of macros that use others) or `nested` (macros that stand deep in one
-//! another), and how many bytes it has at most, up to 1,048,576. It prints the bytes and the tokens.
+//! what the text is made of, `names`, `marks`, `uses` (of macros that use others), `nested` (macros that stand deep in one
+//! another) or `undefs` (macros that are all undefined again), and how many bytes it has at most, up to 1,048,576. It prints the bytes and the tokens.
 #![tactic(auto)]
 
 use ocl_lex::{LexFault, lex};
@@ -15,6 +15,7 @@ enum Kind {
     Marks,
     Uses,
     Nested,
+    Undefs,
 }
 
 fn kind_of(word: &str) -> Option<Kind> {
@@ -23,6 +24,7 @@ fn kind_of(word: &str) -> Option<Kind> {
         "marks" => Some(Kind::Marks),
         "uses" => Some(Kind::Uses),
         "nested" => Some(Kind::Nested),
+        "undefs" => Some(Kind::Undefs),
         _ => None,
     }
 }
@@ -54,12 +56,37 @@ fn chained(alloc: Global, bytes: usize) -> Result<Vec<u8>, AllocError> {
     Ok(text)
 }
 
+/// Lines of a directive, each with another name.
+fn push_lines(
+    text: &mut Vec<u8>,
+    alloc: Global,
+    directive: &str,
+    lines: usize,
+) -> Result<(), AllocError> {
+    for number in 0..lines {
+        let line = format!(in alloc; "#{directive} m{number}\n")?;
+        text.extend_from_slice(line.as_bytes())?;
+    }
+    Ok(())
+}
+
+/// A text of macros, all of which are then undefined in the same order.
+fn defined_and_undefined(alloc: Global, bytes: usize) -> Result<Vec<u8>, AllocError> {
+    // (a line has at most 15 bytes)
+    let lines = (bytes / 30).min(99_999);
+    let mut text = Vec::new(alloc);
+    push_lines(&mut text, alloc, "define", lines)?;
+    push_lines(&mut text, alloc, "undef", lines)?;
+    Ok(text)
+}
+
 fn make_text(alloc: Global, kind: Kind, bytes: usize) -> Result<Vec<u8>, AllocError> {
     match kind {
         Kind::Names => repeated(alloc, b"", b"ab cd_1\n", bytes),
         Kind::Marks => repeated(alloc, b"", b"-- ;", bytes),
         Kind::Uses => repeated(alloc, b"#define A B\n#define B c\n", b"A  ", bytes),
         Kind::Nested => chained(alloc, bytes),
+        Kind::Undefs => defined_and_undefined(alloc, bytes),
     }
 }
 
