@@ -3,7 +3,7 @@ use Rattle.std.specs.Prelude.{Option, Some, None, List, [], ◌∷◌, map}
 use Rattle.std.specs.Option.{option_map}
 use Rattle.ocl_program.specs.Nodes.{ExprNode, NumberNode, VariableNode, UnaryNode, BinaryNode, BothNode, EitherNode, ChooseNode, CastNode, LoadNode, CallNode, BuiltinNode, ParenNode, ArgNodes, NoArgs, ValueArg, ArrayArg, ArgNode, ValueNode, ArrayNode, StmtNode, DeclareNode, LocalArrayNode, SetVariableNode, SetElementNode, CallStmtNode, BarrierNode, IfNode, IfElseNode, WhileNode, DoNode, ForNode, BreakNode, ContinueNode, ReturnNode, BlockNode, EmptyNode, StmtNodes, NoStmts, AndStmt, FunctionNode}
 use Rattle.ocl_program.specs.declared.exprs.TypedExpr.{TypedExpr, Number, Variable, Unary', Binary', Both', Either', Choose', Cast', Load', Call', Builtin', Paren', Row_of-Argument, end_of-Argument, more_of-Argument}
-use Rattle.ocl_program.specs.declared.exprs.Argument.{Argument, Value', Array}
+use Rattle.ocl_program.specs.declared.exprs.Argument.{Argument, Value, Array}
 use Rattle.ocl_program.specs.declared.stmts.TypedStmt.{TypedStmt, Declare, LocalArray, SetVariable, SetElement, Call as CallOf, Barrier, If', While', Do', For', Break, Continue, Return, Block', Empty, Row_of-TypedStmt, end_of-TypedStmt, more_of-TypedStmt, Held-TypedStmt-If-2, None', Some'}
 use Rattle.ocl_program.specs.declared.functions.TypedFunction.{TypedFunction}
 
@@ -28,12 +28,12 @@ abbrev mutual
   row_args (more_of-Argument arg rest) = with_arg arg (row_args rest)
 
   pub with_arg : Argument → ArgNodes → ArgNodes
-  with_arg (Value' e) more = ValueArg (node_of e) more
+  with_arg (Value e) more = ValueArg (node_of e) more
   with_arg (Array array) more = ArrayArg array more
 
 -- the plain tree of what a parameter is bound to
 abbrev pub argument_node : Argument → ArgNode
-argument_node (Value' e) = ValueNode (node_of e)
+argument_node (Value e) = ValueNode (node_of e)
 argument_node (Array array) = ArrayNode array
 
 -- an `if`, with or without `else`

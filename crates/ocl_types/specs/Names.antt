@@ -30,14 +30,14 @@ builtin_named name = entry_named name builtins
 abbrev pub Scope : Type 0
 Scope = List (List ℕ × Binding)
 
+abbrev pub or_outer : Option Binding → Option Binding → Option Binding
+or_outer None found = found
+or_outer (Some binding) found = Some binding
+
 -- what the scopes have under a name, the innermost first: an inner name hides an outer one
 abbrev pub binding_named : List ℕ → List Scope → Option Binding
 binding_named name [] = None
 binding_named name (scope ∷ outer) = or_outer (entry_named name scope) (binding_named name outer)
-  where
-    abbrev or_outer : Option Binding → Option Binding → Option Binding
-    or_outer None found = found
-    or_outer (Some binding) found = Some binding
 
 -- the number of the function with a name, counted from n
 abbrev pub function_from : ℕ → List ℕ → List FunctionTree → Option ℕ
