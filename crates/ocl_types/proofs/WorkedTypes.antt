@@ -101,9 +101,9 @@ first_body [] = NoNodes
 first_body (body ∷ more) = body
 
 resolved_body : first_body (bodies (program_of (kernel_of mixed ∷ helper_of (NameTree (x_at 30)) ∷ []))) ≡ mixed_nodes
-unfolding builtin_named, expanded, first_body
+unfolding builtin_named expanded first_body
 resolved_body = refl
 
 call_table : tables (program_of (kernel_of mixed ∷ helper_of (NameTree (x_at 30)) ∷ [])) ≡ (record { callee = 1; variables = 2; sites = 0 } ∷ []) ∷ [] ∷ []
-unfolding builtin_named, expanded
+unfolding builtin_named expanded
 call_table = refl
