@@ -6,6 +6,7 @@
 
 pub mod exprs;
 pub mod functions;
+pub mod nodes;
 pub mod stmts;
 
 pub use exprs::{Argument, ArrayRef, Builtin, TypedExpr};

@@ -91,7 +91,7 @@ pub record FoundArray : Type 0 where
   pub elem : Elem
   pub readonly : Bool
 
--- a typed expression, and the callees of its function so far
+-- a typed expression, and the callees of its function up to it
 pub record Typed : Type 0 where
   pub expr : ExprNode
   pub elem : Elem
@@ -281,10 +281,6 @@ abbrev pub value_of : Pos → List ℕ → ExprNode → Gives → Result Typed T
 value_of pos calls expr Nothing = Err (Mismatch pos)
 value_of pos calls expr (Value elem) = Ok (record { expr = expr; elem = elem; calls = calls })
 
-abbrev pub rest_of : List ParamKind → List ParamKind
-rest_of [] = []
-rest_of (kind ∷ kinds) = kinds
-
 -- ---- expressions
 
 abbrev mutual
@@ -311,12 +307,12 @@ abbrev mutual
   typed fs ss calls (ParenTree part pos) = typed fs ss calls part >>= λ p.
       Ok (record { expr = ParenNode p.expr; elem = p.elem; calls = p.calls })
 
-  -- the arguments of a call behind those so far, of which parameters of these kinds are left
+  -- the arguments of a call behind those so far, for parameters of these kinds
   pub typed_args : List FunctionTree → List Scope → List ParamKind → ArgsSofar → ArgTrees → Result ArgsSofar TypeFault
   typed_args fs ss kinds sofar NoArgs = Ok sofar
   typed_args fs ss kinds sofar (AndArg arg args) =
-      with_argument (first_pos arg) sofar (bare_array fs ss (slice_get kinds 0) arg) (typed fs ss sofar.calls arg) >>= λ next.
-      typed_args fs ss (rest_of kinds) next args
+      with_argument (first_pos arg) sofar (bare_array fs ss (slice_get kinds (length sofar.given)) arg) (typed fs ss sofar.calls arg) >>= λ next.
+      typed_args fs ss kinds next args
 
 -- a call whose value is not used
 abbrev pub typed_call : List FunctionTree → List Scope → List ℕ → Ident → ArgTrees → Result TypedCall TypeFault

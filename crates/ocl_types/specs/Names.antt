@@ -16,12 +16,14 @@ entry_named name [] = None
 entry_named name (entry ∷ more) = if bytes_eq name entry.0 then Some entry.1 else entry_named name more
 
 -- the built-in functions (OpenCL C 1.2, sections 6.12.1 and 6.12.3)
+abbrev pub arithmetic_builtins : List (List ℕ × Builtin)
+arithmetic_builtins = (codes "min", Min) ∷ (codes "max", Max) ∷ (codes "clamp", Clamp) ∷ (codes "abs", Abs) ∷ (codes "mul_hi", MulHi) ∷ []
+
 abbrev pub builtins : List (List ℕ × Builtin)
 builtins =
     (codes "get_work_dim", WorkDim) ∷ (codes "get_global_id", GlobalId) ∷ (codes "get_local_id", LocalId) ∷
     (codes "get_group_id", GroupId) ∷ (codes "get_global_size", GlobalSize) ∷ (codes "get_local_size", LocalSize) ∷
-    (codes "get_num_groups", NumGroups) ∷ (codes "get_global_offset", GlobalOffset) ∷ (codes "min", Min) ∷
-    (codes "max", Max) ∷ (codes "clamp", Clamp) ∷ (codes "abs", Abs) ∷ (codes "mul_hi", MulHi) ∷ []
+    (codes "get_num_groups", NumGroups) ∷ (codes "get_global_offset", GlobalOffset) ∷ arithmetic_builtins
 
 unfoldable pub builtin_named : List ℕ → Option Builtin
 builtin_named name = entry_named name builtins

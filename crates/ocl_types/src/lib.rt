@@ -1,10 +1,17 @@
 //! The typing of kernel files: which files have a program, and which one.
 //!
 //! `specs/Names.antt` says what a name stands for, `specs/Exprs.antt` and `specs/Stmts.antt` type expressions and
-//! statements, `specs/Functions.antt` the functions of a file, and `specs/Limits.antt` has the limits.
+//! statements, and `specs/Functions.antt` the functions of a file with their limits.
 #![tactic(auto)]
 
+pub mod args;
+pub mod builtins;
+pub mod exprs;
 pub mod faults;
+pub mod functions;
+pub mod kinds;
 pub mod names;
+pub mod parts;
+pub mod scopes;
 
 pub use faults::{Counted, TypeFault};
