@@ -7,7 +7,9 @@ use Rattle.ocl_types.specs.declared.args.Args.{Args}
 use Rattle.ocl_types.specs.declared.exprs.TypedPart.{TypedPart}
 use Rattle.ocl_types.specs.declared.faults.TypeFault.{TypeFault}
 use Rattle.ocl_types.specs.declared.faults.TypeFault.TheVariants.{Memory}
-use Rattle.ocl_types.specs.Exprs.{Typed, ArgsSofar}
+use Rattle.ocl_types.specs.declared.uses.Callee.{Callee as CalleeOf}
+use Rattle.ocl_types.specs.declared.uses.Callee.TheVariants.{Helper as HelperOf, Builtin as BuiltinOf}
+use Rattle.ocl_types.specs.Exprs.{Typed, ArgsSofar, Callee, Helper, BuiltinCallee, kinds_of}
 
 -- want of memory, or the judgement's fault
 abbrev pub Faults : {A : Type 0} → TypeFault → Result A TypeFault → Type 0
@@ -33,3 +35,8 @@ TakesTo (Err fault) calls judged = Faults fault judged
 abbrev pub Makes : Result TypedPart TypeFault → ExprNode → Elem → Type 0
 Makes (Ok part) expr elem = (node_of part.expr ≡ expr) × (part.elem ≡ elem)
 Makes (Err fault) expr elem = fault ≡ Memory
+
+-- what a call's name stands for
+abbrev pub callee_in : CalleeOf → Callee
+callee_in (HelperOf number params gives) = Helper number (kinds_of params.now) gives
+callee_in (BuiltinOf which) = BuiltinCallee which

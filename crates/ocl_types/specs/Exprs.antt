@@ -27,6 +27,7 @@ use Rattle.ocl_types.specs.declared.faults.TypeFault.{TypeFault}
 use Rattle.ocl_types.specs.declared.faults.TypeFault.TheVariants.{Unknown, Twice, Mismatch}
 use Rattle.ocl_types.specs.declared.names.Binding.{Binding}
 use Rattle.ocl_types.specs.declared.names.Binding.TheVariants.{Scalar as ScalarBinding, Array as ArrayBinding}
+use Rattle.ocl_types.specs.declared.names.FoundArray.{FoundArray}
 use Rattle.ocl_types.specs.declared.names.Given.{Given}
 use Rattle.ocl_types.specs.declared.names.Given.TheVariants.{Value as ValueGiven, Array as ArrayGiven}
 use Rattle.ocl_types.specs.declared.names.Meaning.{Meaning}
@@ -83,13 +84,6 @@ abbrev pub binary_type : BinOp → Elem → Elem → Elem
 binary_type op left right = if is_comparison op then Int else word_type (on_uint op left right)
 
 -- ---- names
-
--- an array, as a name finds it
-pub record FoundArray : Type 0 where
-  pub array : ArrayRef
-  pub space : Space
-  pub elem : Elem
-  pub readonly : Bool
 
 -- a typed expression, and the callees of its function up to it
 pub record Typed : Type 0 where

@@ -13,5 +13,6 @@ pub mod kinds;
 pub mod names;
 pub mod parts;
 pub mod scopes;
+pub mod uses;
 
 pub use faults::{Counted, TypeFault};

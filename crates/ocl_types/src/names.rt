@@ -61,3 +61,16 @@ pub enum Given {
         pos: Pos,
     },
 }
+
+/// An array that a name finds.
+#[derive(Clone, Copy, Debug, PartialEq, Eq)]
+pub struct FoundArray {
+    /// Which one.
+    pub array: ArrayRef,
+    /// Where it lives.
+    pub space: Space,
+    /// The type of its elements.
+    pub elem: Elem,
+    /// Whether no store to it is accepted.
+    pub readonly: bool,
+}
