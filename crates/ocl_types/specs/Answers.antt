@@ -4,12 +4,13 @@ use Rattle.vx_base.specs.declared.types.Elem.{Elem}
 use Rattle.ocl_program.specs.Nodes.{ExprNode}
 use Rattle.ocl_program.specs.Shapes.{node_of, argument_node}
 use Rattle.ocl_types.specs.declared.args.Args.{Args}
-use Rattle.ocl_types.specs.declared.exprs.TypedPart.{TypedPart}
+use Rattle.ocl_types.specs.declared.calls.CallPart.{CallPart}
+use Rattle.ocl_types.specs.declared.parts.TypedPart.{TypedPart}
 use Rattle.ocl_types.specs.declared.faults.TypeFault.{TypeFault}
 use Rattle.ocl_types.specs.declared.faults.TypeFault.TheVariants.{Memory}
 use Rattle.ocl_types.specs.declared.uses.Callee.{Callee as CalleeOf}
 use Rattle.ocl_types.specs.declared.uses.Callee.TheVariants.{Helper as HelperOf, Builtin as BuiltinOf}
-use Rattle.ocl_types.specs.Exprs.{Typed, ArgsSofar, Callee, Helper, BuiltinCallee, kinds_of}
+use Rattle.ocl_types.specs.Exprs.{Typed, TypedCall, ArgsSofar, Callee, Helper, BuiltinCallee}
 
 -- want of memory, or the judgement's fault
 abbrev pub Faults : {A : Type 0} → TypeFault → Result A TypeFault → Type 0
@@ -38,5 +39,10 @@ Makes (Err fault) expr elem = fault ≡ Memory
 
 -- what a call's name stands for
 abbrev pub callee_in : CalleeOf → Callee
-callee_in (HelperOf number params gives) = Helper number (kinds_of params.now) gives
+callee_in (HelperOf number params gives) = Helper number params.now gives
 callee_in (BuiltinOf which) = BuiltinCallee which
+
+-- a typed call, where the callees so far are now these
+abbrev pub CallsTo : Result CallPart TypeFault → List ℕ → Result TypedCall TypeFault → Type 0
+CallsTo (Ok call) calls judged = judged ≡ Ok (record { expr = node_of call.expr; gives = call.gives; calls = calls })
+CallsTo (Err fault) calls judged = Faults fault judged

@@ -1,7 +1,8 @@
 -- The typing of expressions. The functions of the file and the scopes say what names stand for. The callees of the function so far
 -- are carried along, and a call is numbered when its arguments are typed. The first fault met is the answer: parts stand before the
 -- whole, from left to right.
-use Rattle.std.specs.Prelude.{ℕ, zero, suc, ◌+◌, ◌==◌, Bool, true, false, ◌||◌, ◌&&◌, not, if◌then◌else◌, List, [], ◌∷◌, ◌++◌, map, length, replicate, slice_get, Option, None, Some, Result, Ok, Err}
+use Rattle.std.specs.Prelude.{ℕ, zero, suc, ◌+◌, ◌==◌, Bool, true, false, ◌||◌, ◌&&◌, not, if◌then◌else◌, List, [], ◌∷◌, ◌++◌, map, length, find, zip, option_map, slice_get, Option, None, Some, Result, Ok, Err}
+use Rattle.std.specs.List.{list_any}
 use Rattle.vx_base.specs.declared.types.Elem.{Elem}
 use Rattle.vx_base.specs.declared.types.Elem.TheVariants.{Char, Uchar, Short, Ushort, Int, Uint}
 use Rattle.vx_base.specs.declared.types.ParamKind.{ParamKind}
@@ -111,16 +112,13 @@ array_of pos UnknownMeaning = Err (Unknown pos)
 
 -- what a call's name stands for: helper k, or a built-in function
 pub data Callee : Type 0 where
-  Helper : ℕ → List ParamKind → Gives → Callee
+  Helper : ℕ → List Param → Gives → Callee
   BuiltinCallee : Builtin → Callee
-
-abbrev pub kinds_of : List Param → List ParamKind
-kinds_of params = map (λ (p : Param). p.kind) params
 
 -- a kernel is not called
 abbrev pub helper_of : Pos → ℕ → Option FunctionTree → Result Callee TypeFault
 helper_of pos k None = Err (Unknown pos)
-helper_of pos k (Some f) = if f.kernel then Err (Mismatch pos) else Ok (Helper k (kinds_of f.params) f.gives)
+helper_of pos k (Some f) = if f.kernel then Err (Mismatch pos) else Ok (Helper k f.params f.gives)
 
 -- a name that is called
 abbrev pub callee_of : List FunctionTree → Pos → Meaning → Result Callee TypeFault
@@ -138,10 +136,23 @@ arity Clamp = 3
 arity MulHi = 2
 arity b = 1
 
--- what a call's arguments are bound to; those of a built-in function are numbers
-abbrev pub wanted : Callee → List ParamKind
-wanted (Helper k kinds gives) = kinds
-wanted (BuiltinCallee b) = replicate (arity b) (Scalar Int)
+-- how many arguments a call takes
+abbrev pub wanted : Callee → ℕ
+wanted (Helper k params gives) = length params
+wanted (BuiltinCallee b) = arity b
+
+abbrev pub is_pointer : ParamKind → Bool
+is_pointer (Scalar elem) = false
+is_pointer (Pointer space elem readonly) = true
+
+abbrev pub takes_pointer : Option Param → Bool
+takes_pointer None = false
+takes_pointer (Some p) = is_pointer p.kind
+
+-- whether the parameter at a place, from 0, is a pointer
+abbrev pub pointer_at : Callee → ℕ → Bool
+pointer_at (Helper k params gives) place = takes_pointer (slice_get params place)
+pointer_at (BuiltinCallee b) place = false
 
 -- the place of an expression's first token
 abbrev pub first_pos : ExprTree → Pos
@@ -168,9 +179,12 @@ abbrev pub array_meant : Meaning → Option FoundArray
 array_meant (Bound (ArrayBinding array space elem readonly)) = Some (record { array = array; space = space; elem = elem; readonly = readonly })
 array_meant meaning = None
 
-abbrev pub bare_array : List FunctionTree → List Scope → Option ParamKind → ExprTree → Option FoundArray
-bare_array functions scopes (Some (Pointer space elem readonly)) (NameTree name) = array_meant (meaning_of functions scopes name.text)
-bare_array functions scopes kind expr = None
+abbrev pub bare_name : List FunctionTree → List Scope → ExprTree → Option FoundArray
+bare_name functions scopes (NameTree name) = array_meant (meaning_of functions scopes name.text)
+bare_name functions scopes expr = None
+
+abbrev pub bare_array : List FunctionTree → List Scope → Bool → ExprTree → Option FoundArray
+bare_array functions scopes pointer expr = if pointer then bare_name functions scopes expr else None
 
 -- the arguments with one more: an array by its bare name, or else a typed expression
 abbrev pub with_argument : Pos → ArgsSofar → Option FoundArray → Result Typed TypeFault → Result ArgsSofar TypeFault
@@ -214,9 +228,8 @@ given_pos (ValueGiven elem pos) = pos
 given_pos (ArrayGiven space elem readonly pos) = pos
 
 -- the first argument that is not of its parameter's kind
-abbrev pub first_stranger : List ParamKind → List Given → Option Pos
-first_stranger (kind ∷ kinds) (given ∷ more) = if is_of_kind kind given then first_stranger kinds more else Some (given_pos given)
-first_stranger kinds given = None
+abbrev pub first_stranger : List Param → List Given → Option Pos
+first_stranger params given = option_map (λ (pair : Param × Given). given_pos pair.1) (find (λ (pair : Param × Given). not (is_of_kind pair.0.kind pair.1)) (zip params given))
 
 -- `mul_hi` takes int and uint as they are
 abbrev pub is_word : Given → Bool
@@ -225,18 +238,21 @@ is_word (ValueGiven Uint pos) = true
 is_word given = false
 
 abbrev pub first_not_word : List Given → Option Pos
-first_not_word [] = None
-first_not_word (given ∷ more) = if is_word given then first_not_word more else Some (given_pos given)
+first_not_word given = option_map given_pos (find (λ (g : Given). not (is_word g)) given)
 
+-- the first argument of a wrong kind
 abbrev pub stranger : Callee → List Given → Option Pos
+stranger (Helper k params gives) given = first_stranger params given
 stranger (BuiltinCallee MulHi) given = first_not_word given
-stranger callee given = first_stranger (wanted callee) given
+stranger (BuiltinCallee b) given = None
 
 -- whether the common type of some arguments is uint
+abbrev pub given_is_uint : Given → Bool
+given_is_uint (ValueGiven elem pos) = is_uint elem
+given_is_uint (ArrayGiven space elem readonly pos) = false
+
 abbrev pub any_uint : List Given → Bool
-any_uint [] = false
-any_uint (ValueGiven elem pos ∷ more) = is_uint elem || any_uint more
-any_uint (ArrayGiven space elem readonly pos ∷ more) = any_uint more
+any_uint given = list_any given_is_uint given
 
 -- what a built-in function gives, whose arguments have the common type uint or int
 abbrev pub builtin_type : Builtin → Bool → Elem
@@ -253,7 +269,7 @@ pub record TypedCall : Type 0 where
   pub calls : List ℕ
 
 abbrev pub call_made : Callee → ArgsSofar → TypedCall
-call_made (Helper k kinds gives) sofar = record { expr = CallNode (cut (length sofar.calls)) (arg_nodes sofar.args); gives = gives; calls = sofar.calls ++ k ∷ [] }
+call_made (Helper k params gives) sofar = record { expr = CallNode (cut (length sofar.calls)) (arg_nodes sofar.args); gives = gives; calls = sofar.calls ++ k ∷ [] }
 call_made (BuiltinCallee b) sofar = record
   { expr = BuiltinNode b (any_uint sofar.given) (arg_nodes sofar.args)
   ; gives = Value (builtin_type b (any_uint sofar.given))
@@ -267,13 +283,16 @@ unless_stranger (Some pos) call = Err (Mismatch pos)
 -- a call whose arguments are typed: their number, then their kinds
 abbrev pub whole_call : Pos → Callee → ArgsSofar → Result TypedCall TypeFault
 whole_call pos callee sofar =
-    if length sofar.given == length (wanted callee) then unless_stranger (stranger callee sofar.given) (call_made callee sofar)
+    if length sofar.given == wanted callee then unless_stranger (stranger callee sofar.given) (call_made callee sofar)
     else Err (Mismatch pos)
 
 -- a call whose value is used
-abbrev pub value_of : Pos → List ℕ → ExprNode → Gives → Result Typed TypeFault
-value_of pos calls expr Nothing = Err (Mismatch pos)
-value_of pos calls expr (Value elem) = Ok (record { expr = expr; elem = elem; calls = calls })
+abbrev pub value_of : Pos → TypedCall → Gives → Result Typed TypeFault
+value_of pos call Nothing = Err (Mismatch pos)
+value_of pos call (Value elem) = Ok (record { expr = call.expr; elem = elem; calls = call.calls })
+
+abbrev pub value_call : Pos → Callee → ArgsSofar → Result Typed TypeFault
+value_call pos callee sofar = whole_call pos callee sofar >>= λ call. value_of pos call call.gives
 
 -- ---- expressions
 
@@ -296,22 +315,22 @@ abbrev mutual
   typed fs ss calls (IndexTree array place pos) = array_of array.pos (meaning_of fs ss array.text) >>= λ a. typed fs ss calls place >>= λ p.
       Ok (record { expr = LoadNode a.array a.elem p.expr pos; elem = a.elem; calls = p.calls })
   typed fs ss calls (CallTree name args) = callee_of fs name.pos (meaning_of fs ss name.text) >>= λ callee.
-      typed_args fs ss (wanted callee) (record { args = []; given = []; calls = calls }) args >>= λ sofar.
-      whole_call name.pos callee sofar >>= λ c. value_of name.pos c.calls c.expr c.gives
+      typed_args fs ss callee (record { args = []; given = []; calls = calls }) args >>= λ sofar.
+      value_call name.pos callee sofar
   typed fs ss calls (ParenTree part pos) = typed fs ss calls part >>= λ p.
       Ok (record { expr = ParenNode p.expr; elem = p.elem; calls = p.calls })
 
-  -- the arguments of a call behind those so far, for parameters of these kinds
-  pub typed_args : List FunctionTree → List Scope → List ParamKind → ArgsSofar → ArgTrees → Result ArgsSofar TypeFault
-  typed_args fs ss kinds sofar NoArgs = Ok sofar
-  typed_args fs ss kinds sofar (AndArg arg args) =
-      with_argument (first_pos arg) sofar (bare_array fs ss (slice_get kinds (length sofar.given)) arg) (typed fs ss sofar.calls arg) >>= λ next.
-      typed_args fs ss kinds next args
+  -- the arguments of a call behind those so far
+  pub typed_args : List FunctionTree → List Scope → Callee → ArgsSofar → ArgTrees → Result ArgsSofar TypeFault
+  typed_args fs ss callee sofar NoArgs = Ok sofar
+  typed_args fs ss callee sofar (AndArg arg args) =
+      with_argument (first_pos arg) sofar (bare_array fs ss (pointer_at callee (length sofar.given)) arg) (typed fs ss sofar.calls arg) >>= λ next.
+      typed_args fs ss callee next args
 
 -- a call whose value is not used
 abbrev pub typed_call : List FunctionTree → List Scope → List ℕ → Ident → ArgTrees → Result TypedCall TypeFault
 typed_call fs ss calls name args = callee_of fs name.pos (meaning_of fs ss name.text) >>= λ callee.
-    typed_args fs ss (wanted callee) (record { args = []; given = []; calls = calls }) args >>= λ sofar.
+    typed_args fs ss callee (record { args = []; given = []; calls = calls }) args >>= λ sofar.
     whole_call name.pos callee sofar
 
 -- an expression that may be left out

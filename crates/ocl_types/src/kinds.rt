@@ -1,6 +1,6 @@
 //! Types of expressions, and kinds of arguments.
-ghost use Rattle.std.specs.Prelude.{◌≡◌, None};
-ghost use Rattle.ocl_types.specs.Exprs.{is_uint as is_uint_of, word_type as word_type_of, unary_type as unary_type_of, on_uint as on_uint_of, is_comparison as is_comparison_of, binary_type as binary_type_of, arity as arity_of, is_of_kind as is_of_kind_of, is_word as is_word_of, given_pos, any_uint as any_uint_of, first_not_word as first_not_word_of, builtin_type as builtin_type_of};
+ghost use Rattle.std.specs.Prelude.{◌≡◌};
+ghost use Rattle.ocl_types.specs.Exprs.{is_uint as is_uint_of, word_type as word_type_of, unary_type as unary_type_of, on_uint as on_uint_of, is_comparison as is_comparison_of, binary_type as binary_type_of, arity as arity_of, is_of_kind as is_of_kind_of, is_word as is_word_of, given_pos, builtin_type as builtin_type_of};
 ghost use Rattle.ocl_types.specs.Names.{is_fixed as is_fixed_of};
 
 use crate::names::Given;

@@ -6,7 +6,7 @@
 
 pub mod args;
 pub mod builtins;
-pub mod exprs;
+pub mod calls;
 pub mod faults;
 pub mod functions;
 pub mod kinds;

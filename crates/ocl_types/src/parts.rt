@@ -6,13 +6,21 @@ ghost use Rattle.ocl_program.specs.Shapes.{node_of};
 ghost use Rattle.ocl_types.specs.Answers.{Makes};
 ghost use Rattle.ocl_types.specs.Exprs.{binary_type as binary_type_of, meet, on_uint as on_uint_of, unary_type as unary_type_of, word_type as word_type_of};
 
-use crate::exprs::TypedPart;
 use crate::faults::TypeFault;
 use crate::kinds::{binary_type, is_uint, on_uint, unary_type, word_type};
 use ocl_ast::{BinOp, UnOp};
-use ocl_program::{nodes, ArrayRef};
+use ocl_program::{nodes, ArrayRef, TypedExpr};
 use std::alloc::Global;
 use vx_base::{Elem, Pos};
+
+/// A typed expression with its type.
+#[derive(Drop)]
+pub struct TypedPart {
+    /// The expression.
+    pub expr: TypedExpr,
+    /// Its type, before it is promoted.
+    pub elem: Elem,
+}
 
 /// An operator before its operand.
 pub fn unary(alloc: Global, op: UnOp, part: TypedPart) -> Result<TypedPart, TypeFault>

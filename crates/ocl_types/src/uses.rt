@@ -3,7 +3,7 @@ ghost use Rattle.std.specs.Prelude.{◌≡◌, ℕ, List, MatchResult, Ok, Err, 
 ghost use Rattle.ocl_types.specs.Answers.{callee_in, typed_part};
 ghost use Rattle.ocl_types.specs.Exprs.{array_of, callee_of, helper_of, variable_of};
 
-use crate::exprs::TypedPart;
+use crate::parts::TypedPart;
 use crate::faults::TypeFault;
 use crate::functions::Functions;
 use crate::names::{Binding, FoundArray, Meaning};
