@@ -7,6 +7,7 @@
 pub mod args;
 pub mod builtins;
 pub mod calls;
+pub mod exprs;
 pub mod faults;
 pub mod functions;
 pub mod kinds;
