@@ -1,12 +1,18 @@
 -- What a part answers gives what the whole answers.
-use Rattle.std.proofs.Common.{◌≡◌, ◌⊎◌, inl, inr, refl, ap, sym, ◌∙◌, ℕ, List, Result, Ok, Err}
+use Rattle.std.proofs.Common.{◌≡◌, ◌⊎◌, inl, inr, refl, ap, sym, ◌∙◌, ℕ, List, Vec, Global, length, Result, Ok, Err}
 use Rattle.vx_base.specs.declared.types.Elem.{Elem}
+use Rattle.ocl_ast.proofs.Rows.{call_tree}
+use Rattle.ocl_ast.specs.Shapes.{tree_of, arg_trees}
+use Rattle.ocl_ast.specs.Trees.{ExprTree, CallTree, ArgTrees, AndArg, FunctionTree}
+use Rattle.ocl_ast.specs.declared.exprs.Expr.{Expr, Call}
+use Rattle.ocl_ast.specs.declared.exprs.Ident.{Ident}
 use Rattle.ocl_program.specs.Nodes.{ExprNode}
 use Rattle.ocl_program.specs.Shapes.{node_of}
 use Rattle.ocl_types.specs.declared.faults.TypeFault.{TypeFault}
 use Rattle.ocl_types.specs.declared.faults.TypeFault.TheVariants.{Memory}
 use Rattle.ocl_types.specs.declared.parts.TypedPart.{TypedPart}
-use Rattle.ocl_types.specs.Exprs.{◌>>=◌, Typed}
+use Rattle.ocl_types.specs.Names.{Scope}
+use Rattle.ocl_types.specs.Exprs.{◌>>=◌, Typed, ArgsSofar, Callee, typed, typed_args, with_argument, bare_array, pointer_at, first_pos}
 use Rattle.ocl_types.specs.Answers.{Faults, TypesTo, Makes}
 
 -- a fault of the first part is the fault of the whole
@@ -31,3 +37,19 @@ pub types_made : (r : Result TypedPart TypeFault) (calls : List ℕ) (expr : Exp
 types_made (Ok part) calls expr elem made =
     ap (λ e. Ok (record { expr = e; elem = elem; calls = calls })) (sym made.0) ∙ ap (λ t. Ok (record { expr = node_of part.expr; elem = t; calls = calls })) (sym made.1)
 types_made (Err fault) calls expr elem made = inl made
+
+-- the arguments of a call are those of the list
+pub call_seen : (name : Ident) (args : Vec Expr Global) → tree_of (Call name args) ≡ CallTree name (arg_trees args.items)
+call_seen name args = call_tree name args
+
+-- an argument that is taken leaves the others
+pub one_taken : (fs : List FunctionTree) (ss : List Scope) (callee : Callee) (sofar next : ArgsSofar) (arg : ExprTree) (rest : ArgTrees) →
+    with_argument (first_pos arg) sofar (bare_array fs ss (pointer_at callee (length sofar.given)) arg) (typed fs ss sofar.calls arg) ≡ Ok next →
+    typed_args fs ss callee sofar (AndArg arg rest) ≡ typed_args fs ss callee next rest
+one_taken fs ss callee sofar next arg rest taken = ap (λ r. r >>= λ (n : ArgsSofar). typed_args fs ss callee n rest) taken
+
+-- a fault of an argument is the fault of the call
+pub one_refused : (fs : List FunctionTree) (ss : List Scope) (callee : Callee) (sofar : ArgsSofar) (fault : TypeFault) (arg : ExprTree) (rest : ArgTrees) →
+    with_argument (first_pos arg) sofar (bare_array fs ss (pointer_at callee (length sofar.given)) arg) (typed fs ss sofar.calls arg) ≡ Err fault →
+    typed_args fs ss callee sofar (AndArg arg rest) ≡ Err fault
+one_refused fs ss callee sofar fault arg rest refused = ap (λ r. r >>= λ (n : ArgsSofar). typed_args fs ss callee n rest) refused

@@ -201,18 +201,20 @@ with_argument pos sofar None (Ok t) = Ok (record
 with_argument pos sofar None (Err fault) = Err fault
 
 -- whether two spaces, or two types, are the same
-abbrev pub space_number : Space → ℕ
-space_number Global = 0
-space_number Constant = 1
-space_number Local = 2
+abbrev pub same_space : Space → Space → Bool
+same_space Global Global = true
+same_space Constant Constant = true
+same_space Local Local = true
+same_space one other = false
 
-abbrev pub elem_number : Elem → ℕ
-elem_number Char = 0
-elem_number Uchar = 1
-elem_number Short = 2
-elem_number Ushort = 3
-elem_number Int = 4
-elem_number Uint = 5
+abbrev pub same_elem : Elem → Elem → Bool
+same_elem Char Char = true
+same_elem Uchar Uchar = true
+same_elem Short Short = true
+same_elem Ushort Ushort = true
+same_elem Int Int = true
+same_elem Uint Uint = true
+same_elem one other = false
 
 -- Whether an argument is of its parameter's kind: for a pointer an array of the same space and element type, readonly only where
 -- the parameter is.
@@ -221,7 +223,7 @@ is_of_kind (Scalar wants) (ValueGiven elem pos) = true
 is_of_kind (Scalar wants) (ArrayGiven space elem readonly pos) = false
 is_of_kind (Pointer wants wants_elem may) (ValueGiven elem pos) = false
 is_of_kind (Pointer wants wants_elem may) (ArrayGiven space elem readonly pos) =
-    (space_number wants == space_number space) && (elem_number wants_elem == elem_number elem) && (not readonly || is_fixed wants may)
+    same_space wants space && (same_elem wants_elem elem && (not readonly || is_fixed wants may))
 
 abbrev pub given_pos : Given → Pos
 given_pos (ValueGiven elem pos) = pos

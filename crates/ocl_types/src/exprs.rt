@@ -19,7 +19,7 @@ use std::alloc::Global;
 
 /// Types an expression. `calls` are the callees of its function so far; after a fault they are not to be used.
 #[cycle(exprs)]
-#[tactic(auto, using(crate::proofs::Steps::fault_onward, crate::proofs::Steps::fault_behind, crate::proofs::Steps::types_behind, crate::proofs::Steps::types_made, ocl_ast::proofs::Rows::call_tree))]
+#[tactic(auto, using(crate::proofs::Steps::fault_onward, crate::proofs::Steps::fault_behind, crate::proofs::Steps::types_behind, crate::proofs::Steps::types_made, crate::proofs::Steps::call_seen))]
 pub fn typed_expr(
     alloc: Global,
     functions: &Functions<'_>,

@@ -1,6 +1,6 @@
 //! Types of expressions, and kinds of arguments.
 ghost use Rattle.std.specs.Prelude.{◌≡◌};
-ghost use Rattle.ocl_types.specs.Exprs.{is_uint as is_uint_of, word_type as word_type_of, unary_type as unary_type_of, on_uint as on_uint_of, is_comparison as is_comparison_of, binary_type as binary_type_of, arity as arity_of, is_of_kind as is_of_kind_of, is_word as is_word_of, given_pos, builtin_type as builtin_type_of};
+ghost use Rattle.ocl_types.specs.Exprs.{is_uint as is_uint_of, word_type as word_type_of, unary_type as unary_type_of, on_uint as on_uint_of, is_comparison as is_comparison_of, binary_type as binary_type_of, arity as arity_of, is_of_kind as is_of_kind_of, is_word as is_word_of, given_pos, builtin_type as builtin_type_of, same_elem as same_elem_of, same_space as same_space_of};
 ghost use Rattle.ocl_types.specs.Names.{is_fixed as is_fixed_of};
 
 use crate::names::Given;
@@ -156,7 +156,36 @@ pub fn is_of_kind(kind: ParamKind, given: Given) -> bool
                 readonly,
                 pos: _,
             },
-        ) => wants == space && wants_elem == elem && (!readonly || is_fixed(wants, may)),
+        ) => {
+            same_space(wants, space)
+                && same_elem(wants_elem, elem)
+                && (!readonly || is_fixed(wants, may))
+        }
+    }
+}
+
+/// Whether two spaces are the same.
+fn same_space(one: Space, other: Space) -> bool
+    ensures { result ≡ same_space_of one other }
+{
+    match one {
+        Space::Global => matches!(other, Space::Global),
+        Space::Constant => matches!(other, Space::Constant),
+        Space::Local => matches!(other, Space::Local),
+    }
+}
+
+/// Whether two types are the same.
+fn same_elem(one: Elem, other: Elem) -> bool
+    ensures { result ≡ same_elem_of one other }
+{
+    match one {
+        Elem::Char => matches!(other, Elem::Char),
+        Elem::Uchar => matches!(other, Elem::Uchar),
+        Elem::Short => matches!(other, Elem::Short),
+        Elem::Ushort => matches!(other, Elem::Ushort),
+        Elem::Int => matches!(other, Elem::Int),
+        Elem::Uint => matches!(other, Elem::Uint),
     }
 }
 
