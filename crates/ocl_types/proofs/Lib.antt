@@ -1,3 +1,4 @@
 pub mod Steps
 pub mod TableLaws
+pub mod WorkedFaults
 pub mod WorkedTypes
