@@ -1,3 +1,4 @@
+pub mod ScopeLaws
 pub mod Steps
 pub mod TableLaws
 pub mod WorkedFaults

@@ -5,6 +5,7 @@ ghost use Rattle.ocl_program.specs.Nodes.{ArrayNode, ValueNode};
 ghost use Rattle.ocl_program.specs.Shapes.{argument_node, node_of};
 ghost use Rattle.ocl_types.specs.Answers.{callee_in};
 ghost use Rattle.ocl_types.specs.Exprs.{bare_array as bare_array_of, first_pos as first_pos_of, pointer_at};
+ghost use Rattle.ocl_types.specs.Tables.{NumbersOf, trees_of};
 ghost use Rattle.ocl_types.specs.declared.faults.TypeFault.TheVariants as fault;
 ghost use Rattle.ocl_types.specs.declared.names.Given.TheVariants as kinds;
 
@@ -71,7 +72,7 @@ impl Args {
 
 /// Whether the parameter at a place is a pointer.
 pub fn pointer_wanted(callee: Callee<'_>, place: usize) -> bool
-    ensures { result ≡ pointer_at (callee_in callee) place }
+    ensures { result ≡ pointer_at (callee_in callee.entry) place }
 {
     match callee {
         Callee::Helper { params, .. } => match params.get(place) {
@@ -89,7 +90,8 @@ pub fn bare_array(
     pointer: bool,
     arg: &Expr,
 ) -> Option<FoundArray>
-    ensures { result ≡ bare_array_of functions.now scopes.now pointer (tree_of arg.now) }
+    requires { NumbersOf functions.now.numbers.entries (trees_of functions.now.functions.now) }
+    ensures { result ≡ bare_array_of (trees_of functions.now.functions.now) scopes.now pointer (tree_of arg.now) }
 {
     if !pointer {
         return None;

@@ -5,6 +5,7 @@ ghost use Rattle.ocl_types.specs.Names.{builtin_named as builtin_named_of, entry
 use ocl_program::Builtin;
 
 /// The built-in function with a name.
+#[tactic(auto, unfolding(crate::specs::Names::builtin_named))]
 pub fn builtin_named(name: &[u8]) -> Option<Builtin>
     ensures { result ≡ builtin_named_of name.now }
 {

@@ -24,7 +24,7 @@ pub struct CallPart {
 
 /// How many arguments a call takes.
 fn wanted(callee: Callee<'_>) -> usize
-    ensures { result ≡ wanted_of (callee_in callee) }
+    ensures { result ≡ wanted_of (callee_in callee.entry) }
 {
     match callee {
         Callee::Helper { params, .. } => params.len(),
@@ -56,7 +56,7 @@ fn first_not_word(given: &[Given]) -> Option<Pos>
 
 /// The first argument of a wrong kind.
 fn stranger(callee: Callee<'_>, given: &[Given]) -> Option<Pos>
-    ensures { result ≡ stranger_of (callee_in callee) given.now }
+    ensures { result ≡ stranger_of (callee_in callee.entry) given.now }
 {
     match callee {
         Callee::Helper { params, .. } => first_stranger(params, given),
@@ -102,7 +102,7 @@ pub fn whole_call(
     calls: &mut Vec<u32>,
     args: Args,
 ) -> Result<CallPart, TypeFault>
-    ensures { CallsTo result calls.new.items (whole_call_of pos (callee_in callee) (args_sofar args calls.old.items)) }
+    ensures { CallsTo result calls.new.items (whole_call_of pos (callee_in callee.entry) (args_sofar args calls.old.items)) }
 {
     if args.given.len() != wanted(callee) {
         return Err(TypeFault::Mismatch(pos));
@@ -119,7 +119,7 @@ fn made_call(
     calls: &mut Vec<u32>,
     args: Args,
 ) -> Result<CallPart, TypeFault>
-    ensures { CallsTo result calls.new.items (Ok (call_made (callee_in callee) (args_sofar args calls.old.items))) }
+    ensures { CallsTo result calls.new.items (Ok (call_made (callee_in callee.entry) (args_sofar args calls.old.items))) }
 {
     match callee {
         Callee::Helper { number, gives, .. } => {
@@ -147,7 +147,7 @@ pub fn value_call(
     calls: &mut Vec<u32>,
     args: Args,
 ) -> Result<TypedPart, TypeFault>
-    ensures { TypesTo result calls.new.items (value_call_of pos (callee_in callee) (args_sofar args calls.old.items)) }
+    ensures { TypesTo result calls.new.items (value_call_of pos (callee_in callee.entry) (args_sofar args calls.old.items)) }
 {
     let call = whole_call(pos, callee, calls, args)?;
     match call.gives {

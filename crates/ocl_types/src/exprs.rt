@@ -3,6 +3,7 @@ ghost use Rattle.ocl_ast.specs.Shapes.{tree_of, arg_trees};
 ghost use Rattle.std.specs.Prelude.{[]};
 ghost use Rattle.ocl_types.specs.Answers.{callee_in, TypesTo, TakesTo};
 ghost use Rattle.ocl_types.specs.Exprs.{typed, typed_args as typed_args_of};
+ghost use Rattle.ocl_types.specs.Tables.{NumbersOf, trees_of};
 
 use crate::args::{bare_array, first_pos, pointer_wanted, Args};
 use crate::calls::value_call;
@@ -27,7 +28,8 @@ pub fn typed_expr(
     calls: &mut Vec<u32>,
     expr: &Expr,
 ) -> Result<TypedPart, TypeFault>
-    ensures { TypesTo result calls.new.items (typed functions.now scopes.now calls.old.items (tree_of expr.now)) }
+    requires { NumbersOf functions.now.numbers.entries (trees_of functions.now.functions.now) }
+    ensures { TypesTo result calls.new.items (typed (trees_of functions.now.functions.now) scopes.now calls.old.items (tree_of expr.now)) }
 {
     match expr {
         Expr::Number {
@@ -108,7 +110,8 @@ pub fn typed_args(
     callee: Callee<'_>,
     args: &[Expr],
 ) -> Result<Args, TypeFault>
-    ensures { TakesTo result calls.new.items (typed_args_of functions.now scopes.now (callee_in callee) (record { args = []; given = []; calls = calls.old.items }) (arg_trees args.now)) }
+    requires { NumbersOf functions.now.numbers.entries (trees_of functions.now.functions.now) }
+    ensures { TakesTo result calls.new.items (typed_args_of (trees_of functions.now.functions.now) scopes.now (callee_in callee.entry) (record { args = []; given = []; calls = calls.old.items }) (arg_trees args.now)) }
 {
     let mut sofar = Args::new(alloc);
     for arg in args {

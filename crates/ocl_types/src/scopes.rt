@@ -1,5 +1,5 @@
 //! The scopes of a function, each a table of names in order of declaration.
-ghost use Rattle.std.specs.Prelude.{◌≡◌, ◌∷◌, ◌++◌, [], None, OnOk};
+ghost use Rattle.std.specs.Prelude.{◌≡◌, ◌∷◌, ◌++◌, [], None, OnOk, reverse};
 ghost use Rattle.ocl_types.specs.Names.{entry_named, binding_named};
 ghost use Rattle.ocl_types.specs.Stmts.{outer_scopes};
 
@@ -77,6 +77,7 @@ impl<'a> Scopes<'a> {
     }
 
     /// Opens a scope without names.
+    #[tactic(auto, using(crate::proofs::ScopeLaws::scope_opens))]
     pub fn open(&mut self, alloc: Global) -> Result<(), AllocFailed<NameTable<'a>>>
         ensures { OnOk result (self.new ≡ [] ∷ self.old) }
     {
@@ -85,6 +86,7 @@ impl<'a> Scopes<'a> {
     }
 
     /// Closes the innermost scope, if there is one.
+    #[tactic(auto, using(crate::proofs::ScopeLaws::scope_closes, crate::proofs::ScopeLaws::none_closes))]
     pub fn close(&mut self)
         ensures { self.new ≡ outer_scopes self.old }
     {
@@ -95,9 +97,19 @@ impl<'a> Scopes<'a> {
     pub fn find(&self, name: &[u8]) -> Option<Binding>
         ensures { result ≡ binding_named name.now self.now }
     {
-        self.tables
-            .iter()
-            .rev()
-            .find_map(|table| table.find(name))
+        innermost_binding(self.tables.as_slice(), name)
     }
+}
+
+/// What a name stands for in the last table that has it.
+fn innermost_binding(tables: &[NameTable<'_>], name: &[u8]) -> Option<Binding>
+    ensures { result ≡ binding_named name.now (reverse tables.now) }
+{
+    let mut found = None;
+    for table in tables {
+        if let Some(binding) = table.find(name) {
+            found = Some(binding);
+        }
+    }
+    found
 }

@@ -2,6 +2,7 @@
 ghost use Rattle.std.specs.Prelude.{◌≡◌, ℕ, List, MatchResult, Ok, Err, slice_get};
 ghost use Rattle.ocl_types.specs.Answers.{callee_in, typed_part};
 ghost use Rattle.ocl_types.specs.Exprs.{array_of, callee_of, helper_of, variable_of};
+ghost use Rattle.ocl_types.specs.Tables.{trees_of};
 
 use crate::parts::TypedPart;
 use crate::faults::TypeFault;
@@ -76,7 +77,7 @@ pub fn as_callee<'a>(
     pos: Pos,
     meaning: Meaning,
 ) -> Result<Callee<'a>, TypeFault>
-    ensures { MatchResult result (λ callee. callee_of functions.now pos meaning ≡ Ok (callee_in callee)) (λ fault. callee_of functions.now pos meaning ≡ Err fault) }
+    ensures { MatchResult result (λ callee. callee_of (trees_of functions.now.functions.now) pos meaning ≡ Ok (callee_in callee)) (λ fault. callee_of (trees_of functions.now.functions.now) pos meaning ≡ Err fault) }
 {
     match meaning {
         Meaning::Bound(_) => Err(TypeFault::Mismatch(pos)),
@@ -92,7 +93,7 @@ fn as_helper<'a>(
     pos: Pos,
     number: u32,
 ) -> Result<Callee<'a>, TypeFault>
-    ensures { MatchResult result (λ callee. helper_of pos number (slice_get functions.now number) ≡ Ok (callee_in callee)) (λ fault. helper_of pos number (slice_get functions.now number) ≡ Err fault) }
+    ensures { MatchResult result (λ callee. helper_of pos number (slice_get (trees_of functions.now.functions.now) number) ≡ Ok (callee_in callee)) (λ fault. helper_of pos number (slice_get (trees_of functions.now.functions.now) number) ≡ Err fault) }
 {
     let Some(function) = functions.at(number) else {
         return Err(TypeFault::Unknown(pos));
