@@ -1,0 +1,2 @@
+pub mod WorkedMeasures
+pub mod Rows

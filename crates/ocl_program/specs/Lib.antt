@@ -1,0 +1,4 @@
+pub mod Nodes
+pub mod Shapes
+pub mod Values
+pub mod Measures

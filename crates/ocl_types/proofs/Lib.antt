@@ -1,0 +1,4 @@
+pub mod ScopeLaws
+pub mod TableLaws
+pub mod WorkedFaults
+pub mod WorkedTypes

@@ -1,0 +1,15 @@
+//! The typing of kernel files: which files have a program, and which one.
+//!
+//! `specs/Names.antt` says what a name stands for, `specs/Exprs.antt` and `specs/Stmts.antt` type expressions and
+//! statements, and `specs/Functions.antt` the functions of a file with their limits.
+#![tactic(auto)]
+
+pub mod builtins;
+pub mod faults;
+pub mod functions;
+pub mod kinds;
+pub mod names;
+pub mod parts;
+pub mod scopes;
+
+pub use faults::{Counted, TypeFault};
