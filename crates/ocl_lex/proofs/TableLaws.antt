@@ -1,5 +1,5 @@
 -- The table of a map of names is looked up, changed and cut as the map is.
-use Rattle.std.proofs.Common.{◌≡◌, ℕ, suc, ◌-◌, Bool, true, false, cond, nat_lt, List, [], ◌∷◌, map, length, take, slice_set, slice_index_or, swap_remove, position, Option, Some, None, refl, ap, sym, ◌∙◌}
+use Rattle.std.proofs.Common.{◌≡◌, ℕ, ◌+◌, ◌-◌, Bool, true, false, cond, nat_lt, List, [], ◌∷◌, map, length, take, slice_set, slice_index_or, swap_remove, position, Option, Some, None, refl, ap, sym, ◌∙◌}
 use Rattle.std.proofs.Math.ListN.{get_or-map}
 use Rattle.std.proofs.lemmas.List.{length-map, map-set, take-map}
 use Rattle.std.specs.List.{position_or_len}
@@ -39,7 +39,7 @@ insert_table key body (e ∷ es) = by_test (bytes_eq key.items e.0.items)
     (λ t. rw t (ap (λ rest. (e.0.items, e.1.items) ∷ rest) (insert_table key body es)))
 
 -- the entry of a table for one of the map
-row : Vec ℕ Global × Vec Part Global → List ℕ × List Part
+abbrev row : Vec ℕ Global × Vec Part Global → List ℕ × List Part
 row e = (e.0.items, e.1.items)
 
 table_keys : (es : Entries) → keys_of (table_of es) ≡ map (λ k. k.items) (keys_of es)
@@ -50,7 +50,7 @@ first_key : (name : List ℕ) (ks : List (Vec ℕ Global)) → position_or_len (
 first_key name [] = refl
 first_key name (k ∷ ks) = by_test (bytes_eq name k.items)
     (λ t. rw t refl)
-    (λ t. rw t (ap suc (first_key name ks)))
+    (λ t. rw t (ap (λ (n : ℕ). 1 + n) (first_key name ks)))
 
 -- where a name stands in the table
 key_place : (name : List ℕ) (es : Entries) → position (bytes_eq name) (keys_of (table_of es)) ≡ position (λ k. bytes_eq name k.items) (keys_of es)
