@@ -3,8 +3,8 @@
 use Rattle.std.specs.Prelude.{ℕ, zero, suc, Bool, true, false, not, List, [], ◌∷◌, length, Option, None, Some, filter, codes}
 use Rattle.std.specs.List.{flat_map, fold}
 use Rattle.std.specs.Str.{bytes_eq}
-use Rattle.std.specs.Map.{lookup, remove_entry}
-use Rattle.indexmap.specs.IndexMap.{insert_entry}
+use Rattle.std.specs.Map.{lookup}
+use Rattle.indexmap.specs.IndexMap.{insert_entry, swap_remove_entry}
 use Rattle.vx_base.specs.declared.types.Pos.{Pos}
 use Rattle.ocl_tokens.specs.declared.marks.Mark.TheVariants as mark
 use Rattle.ocl_lex.specs.declared.parts.Part.{Part}
@@ -15,7 +15,7 @@ use Rattle.ocl_lex.specs.declared.predefined.Predefined.TheVariants as predefine
 use Rattle.ocl_lex.specs.Events.{Event, Show, Use}
 use Rattle.ocl_lex.specs.Parts.{between, name_of, token_at}
 
--- names and replacements, in order of declaration
+-- Names and replacements. Their order says nothing.
 abbrev pub Macros : Type 0
 Macros = List (List ℕ × List Part)
 
@@ -26,8 +26,9 @@ replacement_of name macros = lookup (bytes_eq name) macros
 abbrev pub defined : List ℕ → List Part → Macros → Macros
 defined name body macros = insert_entry bytes_eq macros name body
 
+-- the last macro takes the place of one that is taken out
 abbrev pub undefined : List ℕ → Macros → Macros
-undefined name macros = remove_entry (bytes_eq name) macros
+undefined name macros = swap_remove_entry (bytes_eq name) macros
 
 abbrev pub without : List ℕ → Macros → Macros
 without name macros = filter (λ m. not (bytes_eq name m.0)) macros

@@ -9,7 +9,7 @@ use indexmap::IndexMap;
 use std::alloc::{AllocError, Global};
 use std::marker::Model;
 
-/// Names with their replacements, in order of declaration.
+/// Names with their replacements, in order of declaration, where none was taken out.
 #[derive(Drop)]
 pub struct Macros {
     table: IndexMap<Vec<u8>, Vec<Part>>,
@@ -57,7 +57,7 @@ impl Macros {
     pub fn undefine(&mut self, name: &[u8])
         ensures { self.new ≡ spec.undefined name.now self.old }
     {
-        let _earlier = self.table.shift_remove(name);
+        let _earlier = self.table.swap_remove(name);
     }
 
     fn define_predefined(&mut self, alloc: Global, predefined: Predefined) -> Result<(), AllocError>
