@@ -1,0 +1,4 @@
+//! The parser.
+#![tactic(auto)]
+
+pub mod scalars;
