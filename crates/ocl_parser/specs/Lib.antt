@@ -3,3 +3,7 @@ pub mod Scalars
 pub mod Exprs
 pub mod Stmts
 pub mod Units
+pub mod ScalarSteps
+pub mod ExprSteps
+pub mod StmtSteps
+pub mod UnitSteps

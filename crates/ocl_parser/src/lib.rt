@@ -2,3 +2,4 @@
 #![tactic(auto)]
 
 pub mod scalars;
+pub mod operators;
