@@ -104,7 +104,7 @@ abbrev mutual
       word Do (stmt_text body (word While (mark OpenParen (expr_text test (mark CloseParen (mark Semicolon rest))))))
   stmt_text (ForTree first test step body) rest =
       word For (mark OpenParen (first_text first (mark Semicolon (option_text test (mark Semicolon
-          (assigns_text step (mark CloseParen (stmt_text body rest))))))))
+      (assigns_text step (mark CloseParen (stmt_text body rest))))))))
   stmt_text (BreakTree pos) rest = word_at Break pos (mark Semicolon rest)
   stmt_text (ContinueTree pos) rest = word_at Continue pos (mark Semicolon rest)
   stmt_text (ReturnTree value pos) rest = word_at Return pos (option_text value (mark Semicolon rest))

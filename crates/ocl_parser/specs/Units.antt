@@ -50,7 +50,7 @@ abbrev pub param_end_text : Param → Option Space → Elem → Bool → Rest �
 param_end_text p None elem constant rest = given (p.kind ≡ Scalar elem) (given (p.constant ≡ constant) (name p.name rest))
 param_end_text p (Some space) elem constant rest =
     mark Star (behind_text false (λ fixed.
-        given (p.kind ≡ Pointer space elem (constant || is_constant space)) (given (p.constant ≡ fixed) (name p.name rest))))
+    given (p.kind ≡ Pointer space elem (constant || is_constant space)) (given (p.constant ≡ fixed) (name p.name rest))))
 
 -- a parameter
 abbrev pub param_text : Param → Rest → Rest

@@ -1,5 +1,8 @@
 //! The parser.
 #![tactic(auto)]
 
-pub mod scalars;
 pub mod operators;
+pub mod scalars;
+pub mod stacks;
+pub mod states;
+pub mod trees;

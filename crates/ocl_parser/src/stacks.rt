@@ -1,0 +1,38 @@
+//! Frames, the innermost last in the code and first in contracts.
+
+use crate::states::{ExprFrame, StmtFrame};
+use std::marker::Model;
+
+/// What an expression stands in.
+#[derive(Debug, Drop)]
+pub struct ExprFrames {
+    /// The frames, the innermost last.
+    items: Vec<ExprFrame>,
+}
+
+impl Model for ExprFrames {
+    ghost use Rattle.std.specs.Prelude.{List, reverse};
+    ghost use Rattle.ocl_parser.specs.declared.states.ExprFrame.{ExprFrame};
+
+    ghost Value = { List ExprFrame };
+
+    ghost view = { λ f. reverse f.items.items };
+}
+
+/// What a statement stands in.
+#[derive(Debug, Drop)]
+pub struct StmtFrames {
+    /// The frames, the innermost last.
+    items: Vec<StmtFrame>,
+    /// How many of them count as a level.
+    levels: u32,
+}
+
+impl Model for StmtFrames {
+    ghost use Rattle.std.specs.Prelude.{List, reverse};
+    ghost use Rattle.ocl_parser.specs.declared.states.StmtFrame.{StmtFrame};
+
+    ghost Value = { List StmtFrame };
+
+    ghost view = { λ f. reverse f.items.items };
+}
