@@ -19,6 +19,10 @@ use Rattle.ocl_parser.specs.Scalars.{scalar_elem}
 use Rattle.ocl_parser.specs.ScalarSteps.{scalar_first, scalar_more}
 use Rattle.ocl_parser.specs.declared.scalars.Scalar.{Scalar}
 use Rattle.ocl_parser.specs.declared.operators.Infix.{Infix}
+use Rattle.ocl_parser.specs.declared.states.ExprFocus.{ExprFocus}
+use Rattle.ocl_parser.specs.declared.states.ExprFocus.TheVariants.{Operand, Named, Opened, Casting, Calling, Done}
+use Rattle.ocl_parser.specs.declared.states.ExprFrame.{ExprFrame}
+use Rattle.ocl_parser.specs.declared.states.ExprFrame.TheVariants.{Unary as UnaryFrame, Cast as CastFrame, Between as InfixFrame, Test as TestFrame, Other as OtherFrame, Index as IndexFrame, Call as ArgsFrame, Paren as ParenFrame}
 use Rattle.ocl_parser.specs.declared.operators.Infix.TheVariants.{Both, Either, Op}
 
 -- an operator between two operands, by its punctuator
@@ -60,26 +64,6 @@ abbrev pub infix_tree : Infix → ExprTree → ExprTree → Pos → ExprTree
 infix_tree (Op op) left right pos = BinaryTree op left right pos
 infix_tree Both left right pos = BothTree left right pos
 infix_tree Either left right pos = EitherTree left right pos
-
--- a construct that waits for an expression in it
-pub data ExprFrame : Type 0 where
-  UnaryFrame : UnOp → Pos → ExprFrame
-  CastFrame : Elem → Pos → ExprFrame
-  InfixFrame : Infix → ExprTree → Pos → ExprFrame
-  TestFrame : ExprTree → Pos → ExprFrame
-  OtherFrame : ExprTree → ExprTree → Pos → ExprFrame
-  IndexFrame : Ident → Pos → ExprFrame
-  ArgsFrame : Ident → ArgTrees → ExprFrame
-  ParenFrame : Pos → ExprFrame
-
--- what has been read of the operand: nothing, a name, a `(`, the type of a cast, a name and a `(`, or the whole
-pub data ExprFocus : Type 0 where
-  Operand : ExprFocus
-  Named : Ident → ExprFocus
-  Opened : Pos → ExprFocus
-  Casting : Scalar → Pos → ExprFocus
-  Calling : Ident → ExprFocus
-  Done : ExprTree → ExprFocus
 
 -- What a token does: the reading goes on; or the expression has ended before it; or no expression goes on with it.
 pub data ExprNext : Type 0 where

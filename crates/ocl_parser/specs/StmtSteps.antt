@@ -18,71 +18,16 @@ use Rattle.ocl_tokens.specs.declared.words.Word.TheVariants.{UnderscoreLocal, Lo
 use Rattle.ocl_parser.specs.declared.scalars.Scalar.{Scalar}
 use Rattle.ocl_parser.specs.Scalars.{scalar_elem}
 use Rattle.ocl_parser.specs.ScalarSteps.{scalar_first, scalar_more}
-use Rattle.ocl_parser.specs.ExprSteps.{ExprFocus, Operand, ExprFrame, ExprNext, Goes, Ends, Refuses, and_arg, operand_step, expr_step}
-
--- Where a declaration or an assignment stands: among the items of a block, or in the first or the last part of a `for`, with what
--- stands before it there.
-pub data Place : Type 0 where
-  InBlock : Place
-  InFirst : StmtTrees → Place
-  InStep : StmtTrees → Option ExprTree → StmtTrees → Place
-
--- what an expression is for
-pub data Purpose : Type 0 where
-  InitOf : Place → Elem → Bool → Ident → Purpose
-  CountOf : Elem → Ident → Purpose
-  IndexOf : Place → Ident → Pos → Purpose
-  CountedIndexOf : Place → AssignOp → Pos → Ident → Pos → Purpose
-  ValueOf : Place → TargetTree → AssignOp → Pos → Purpose
-  ArgsOf : Ident → ArgTrees → Purpose
-  IfTest : Purpose
-  WhileTest : Purpose
-  DoTest : StmtTree → Purpose
-  ForTest : StmtTrees → Purpose
-  ReturnOf : Pos → Purpose
-
--- a construct that waits for a statement in it
-pub data StmtFrame : Type 0 where
-  BlockFrame : StmtTrees → StmtFrame
-  ThenFrame : ExprTree → StmtFrame
-  ElseFrame : ExprTree → StmtTree → StmtFrame
-  WhileFrame : ExprTree → StmtFrame
-  DoFrame : StmtFrame
-  ForFrame : StmtTrees → Option ExprTree → StmtTrees → StmtFrame
-
--- what has been read of a statement
-pub data StmtFocus : Type 0 where
-  ItemStart : StmtFocus
-  BodyStart : StmtFocus
-  Finished : StmtTree → StmtFocus
-  Ending : StmtTree → StmtFocus
-  Reading : Purpose → ExprFocus → List ExprFrame → StmtFocus
-  IfWord : StmtFocus
-  WhileWord : StmtFocus
-  ForWord : StmtFocus
-  DoWhile : StmtTree → StmtFocus
-  BarrierWord : Pos → StmtFocus
-  BarrierOpen : Pos → StmtFocus
-  BarrierNumber : Pos → StmtFocus
-  QualifiersRead : Place → Bool → StmtFocus
-  ScalarRead : Place → Bool → Scalar → StmtFocus
-  TypeRead : Place → Elem → Bool → StmtFocus
-  NameNext : Place → Elem → Bool → StmtFocus
-  Declared : Place → Elem → Bool → Ident → StmtFocus
-  LocalWord : StmtFocus
-  LocalScalar : Scalar → StmtFocus
-  LocalNamed : Elem → Ident → StmtFocus
-  AssignNext : Place → StmtFocus
-  AssignNamed : Place → Ident → StmtFocus
-  CountedBefore : Place → AssignOp → Pos → StmtFocus
-  CountedNamed : Place → AssignOp → Pos → Ident → StmtFocus
-  Targeted : Place → TargetTree → StmtFocus
-  Assigned : Place → StmtTree → StmtFocus
-  CallOpen : Ident → StmtFocus
-  FirstStart : StmtFocus
-  TestStart : StmtTrees → StmtFocus
-  StepStart : StmtTrees → Option ExprTree → StmtFocus
-  Returning : Pos → StmtFocus
+use Rattle.ocl_parser.specs.ExprSteps.{ExprNext, Goes, Ends, Refuses, and_arg, operand_step, expr_step}
+use Rattle.ocl_parser.specs.declared.states.ExprFocus.TheVariants.{Operand}
+use Rattle.ocl_parser.specs.declared.states.Part.{Part}
+use Rattle.ocl_parser.specs.declared.states.Part.TheVariants.{InBlock, InFirst, InStep}
+use Rattle.ocl_parser.specs.declared.states.Purpose.{Purpose}
+use Rattle.ocl_parser.specs.declared.states.Purpose.TheVariants.{InitOf, CountOf, IndexOf, CountedIndexOf, ValueOf, ArgsOf, IfTest, WhileTest, DoTest, ForTest, ReturnOf}
+use Rattle.ocl_parser.specs.declared.states.StmtFocus.{StmtFocus}
+use Rattle.ocl_parser.specs.declared.states.StmtFocus.TheVariants.{ItemStart, BodyStart, Finished, Ending, Reading, IfWord, WhileWord, ForWord, DoWhile, BarrierWord, BarrierOpen, BarrierNumber, QualifiersRead, ScalarRead, TypeRead, NameNext, Declared, LocalWord, LocalScalar, LocalNamed, AssignNext, AssignNamed, CountedBefore, CountedNamed, Targeted, Assigned, CallOpen, FirstStart, TestStart, StepStart, Returning}
+use Rattle.ocl_parser.specs.declared.states.StmtFrame.{StmtFrame}
+use Rattle.ocl_parser.specs.declared.states.StmtFrame.TheVariants.{Block as BlockFrame, Then as ThenFrame, Else as ElseFrame, While as WhileFrame, Do as DoFrame, For as ForFrame}
 
 -- What a token does: the reading goes on; or it closes the function's body; or no body goes on with it.
 pub data StmtNext : Type 0 where
@@ -116,37 +61,37 @@ count_of MinusMinus = Some Down
 count_of _ = None
 
 -- the words of a type
-abbrev pub scalar_read : Option Scalar → Place → Bool → List StmtFrame → StmtNext
+abbrev pub scalar_read : Option Scalar → Part → Bool → List StmtFrame → StmtNext
 scalar_read (Some s) place constant K = GoesOn (ScalarRead place constant s) K
 scalar_read None place constant K = Stops
 
-abbrev pub qualified_word : Word → Place → Bool → List StmtFrame → StmtNext
+abbrev pub qualified_word : Word → Part → Bool → List StmtFrame → StmtNext
 qualified_word Const place constant K = GoesOn (QualifiersRead place true) K
 qualified_word Volatile place constant K = GoesOn (QualifiersRead place constant) K
 qualified_word w place constant K = scalar_read (scalar_first w) place constant K
 
-abbrev pub qualified_step : TokenKind → Place → Bool → List StmtFrame → StmtNext
+abbrev pub qualified_step : TokenKind → Part → Bool → List StmtFrame → StmtNext
 qualified_step (WordKind w) place constant K = qualified_word w place constant K
 qualified_step _ place constant K = Stops
 
-abbrev pub typed_step : TokenKind → Pos → Place → Elem → Bool → List StmtFrame → StmtNext
+abbrev pub typed_step : TokenKind → Pos → Part → Elem → Bool → List StmtFrame → StmtNext
 typed_step (NameKind text) pos place elem constant K = GoesOn (Declared place elem constant (record { text = text; pos = pos })) K
 typed_step (WordKind Const) pos place elem constant K = GoesOn (TypeRead place elem true) K
 typed_step (WordKind Volatile) pos place elem constant K = GoesOn (TypeRead place elem constant) K
 typed_step _ pos place elem constant K = Stops
 
-abbrev pub scalar_word : Word → Place → Bool → Scalar → List StmtFrame → StmtNext
+abbrev pub scalar_word : Word → Part → Bool → Scalar → List StmtFrame → StmtNext
 scalar_word Const place constant s K = GoesOn (TypeRead place (scalar_elem s) true) K
 scalar_word Volatile place constant s K = GoesOn (TypeRead place (scalar_elem s) constant) K
 scalar_word w place constant s K = scalar_read (scalar_more s w) place constant K
 
-abbrev pub scalar_step : TokenKind → Pos → Place → Bool → Scalar → List StmtFrame → StmtNext
+abbrev pub scalar_step : TokenKind → Pos → Part → Bool → Scalar → List StmtFrame → StmtNext
 scalar_step (NameKind text) pos place constant s K =
     GoesOn (Declared place (scalar_elem s) constant (record { text = text; pos = pos })) K
 scalar_step (WordKind w) pos place constant s K = scalar_word w place constant s K
 scalar_step _ pos place constant s K = Stops
 
-abbrev pub name_step : TokenKind → Pos → Place → Elem → Bool → List StmtFrame → StmtNext
+abbrev pub name_step : TokenKind → Pos → Part → Elem → Bool → List StmtFrame → StmtNext
 name_step (NameKind text) pos place elem constant K = GoesOn (Declared place elem constant (record { text = text; pos = pos })) K
 name_step _ pos place elem constant K = Stops
 
@@ -155,14 +100,14 @@ abbrev pub and_item : StmtTree → List StmtFrame → List StmtFrame
 and_item s (BlockFrame items ∷ K) = BlockFrame (and_stmt items s) ∷ K
 and_item s K = K
 
-abbrev pub declared_end : TokenKind → Place → Elem → Bool → StmtTree → List StmtFrame → StmtNext
+abbrev pub declared_end : TokenKind → Part → Elem → Bool → StmtTree → List StmtFrame → StmtNext
 declared_end (MarkKind Semicolon) InBlock elem constant s K = GoesOn ItemStart (and_item s K)
 declared_end (MarkKind Comma) InBlock elem constant s K = GoesOn (NameNext InBlock elem constant) (and_item s K)
 declared_end (MarkKind Semicolon) (InFirst done) elem constant s K = GoesOn (TestStart (and_stmt done s)) K
 declared_end (MarkKind Comma) (InFirst done) elem constant s K = GoesOn (NameNext (InFirst (and_stmt done s)) elem constant) K
 declared_end _ place elem constant s K = Stops
 
-abbrev pub declared_step : TokenKind → Place → Elem → Bool → Ident → List StmtFrame → StmtNext
+abbrev pub declared_step : TokenKind → Part → Elem → Bool → Ident → List StmtFrame → StmtNext
 declared_step (MarkKind Equal) place elem constant n K = GoesOn (Reading (InitOf place elem constant n) Operand []) K
 declared_step kind place elem constant n K = declared_end kind place elem constant (DeclareTree elem constant n None) K
 
@@ -194,7 +139,7 @@ abbrev pub begin_step : TokenKind → Pos → Purpose → List StmtFrame → Stm
 begin_step kind pos purpose K = begun purpose (operand_step kind pos []) K
 
 -- an assignment
-abbrev pub assign_end : TokenKind → Place → StmtTree → List StmtFrame → StmtNext
+abbrev pub assign_end : TokenKind → Part → StmtTree → List StmtFrame → StmtNext
 assign_end (MarkKind Semicolon) InBlock s K = GoesOn (Finished s) K
 assign_end (MarkKind Semicolon) (InFirst done) s K = GoesOn (TestStart (and_stmt done s)) K
 assign_end (MarkKind Comma) (InFirst done) s K = GoesOn (AssignNext (InFirst (and_stmt done s))) K
@@ -202,41 +147,41 @@ assign_end (MarkKind CloseParen) (InStep first test done) s K = GoesOn BodyStart
 assign_end (MarkKind Comma) (InStep first test done) s K = GoesOn (AssignNext (InStep first test (and_stmt done s))) K
 assign_end _ place s K = Stops
 
-abbrev pub counted_start : Option AssignOp → Pos → Place → List StmtFrame → StmtNext
+abbrev pub counted_start : Option AssignOp → Pos → Part → List StmtFrame → StmtNext
 counted_start (Some op) pos place K = GoesOn (CountedBefore place op pos) K
 counted_start None pos place K = Stops
 
-abbrev pub assign_start : TokenKind → Pos → Place → List StmtFrame → StmtNext
+abbrev pub assign_start : TokenKind → Pos → Part → List StmtFrame → StmtNext
 assign_start (NameKind text) pos place K = GoesOn (AssignNamed place (record { text = text; pos = pos })) K
 assign_start (MarkKind m) pos place K = counted_start (count_of m) pos place K
 assign_start _ pos place K = Stops
 
-abbrev pub set_target : Option AssignOp → Pos → Place → TargetTree → List StmtFrame → StmtNext
+abbrev pub set_target : Option AssignOp → Pos → Part → TargetTree → List StmtFrame → StmtNext
 set_target (Some op) pos place target K = GoesOn (Reading (ValueOf place target op pos) Operand []) K
 set_target None pos place target K = Stops
 
-abbrev pub target_mark : Option AssignOp → Mark → Pos → Place → TargetTree → List StmtFrame → StmtNext
+abbrev pub target_mark : Option AssignOp → Mark → Pos → Part → TargetTree → List StmtFrame → StmtNext
 target_mark (Some op) m pos place target K = GoesOn (Assigned place (AssignTree target op None pos)) K
 target_mark None m pos place target K = set_target (set_of m) pos place target K
 
-abbrev pub target_step : TokenKind → Pos → Place → TargetTree → List StmtFrame → StmtNext
+abbrev pub target_step : TokenKind → Pos → Part → TargetTree → List StmtFrame → StmtNext
 target_step (MarkKind m) pos place target K = target_mark (count_of m) m pos place target K
 target_step _ pos place target K = Stops
 
-abbrev pub call_start : Place → Ident → List StmtFrame → StmtNext
+abbrev pub call_start : Part → Ident → List StmtFrame → StmtNext
 call_start InBlock n K = GoesOn (CallOpen n) K
 call_start _ n K = Stops
 
-abbrev pub assign_named : TokenKind → Pos → Place → Ident → List StmtFrame → StmtNext
+abbrev pub assign_named : TokenKind → Pos → Part → Ident → List StmtFrame → StmtNext
 assign_named (MarkKind OpenBracket) pos place n K = GoesOn (Reading (IndexOf place n pos) Operand []) K
 assign_named (MarkKind OpenParen) pos place n K = call_start place n K
 assign_named kind pos place n K = target_step kind pos place (NameTarget n) K
 
-abbrev pub counted_before : TokenKind → Pos → Place → AssignOp → Pos → List StmtFrame → StmtNext
+abbrev pub counted_before : TokenKind → Pos → Part → AssignOp → Pos → List StmtFrame → StmtNext
 counted_before (NameKind text) pos place op at K = GoesOn (CountedNamed place op at (record { text = text; pos = pos })) K
 counted_before _ pos place op at K = Stops
 
-abbrev pub counted_named : TokenKind → Pos → Place → AssignOp → Pos → Ident → List StmtFrame → StmtNext
+abbrev pub counted_named : TokenKind → Pos → Part → AssignOp → Pos → Ident → List StmtFrame → StmtNext
 counted_named (MarkKind OpenBracket) pos place op at n K = GoesOn (Reading (CountedIndexOf place op at n pos) Operand []) K
 counted_named kind pos place op at n K = assign_end kind place (AssignTree (NameTarget n) op None at) K
 
@@ -291,11 +236,11 @@ abbrev pub end_count : TokenKind → Elem → Ident → ExprTree → List StmtFr
 end_count (MarkKind CloseBracket) elem n e K = GoesOn (Ending (LocalArrayTree elem n e)) K
 end_count _ elem n e K = Stops
 
-abbrev pub end_index : TokenKind → Place → Ident → Pos → ExprTree → List StmtFrame → StmtNext
+abbrev pub end_index : TokenKind → Part → Ident → Pos → ExprTree → List StmtFrame → StmtNext
 end_index (MarkKind CloseBracket) place n at e K = GoesOn (Targeted place (IndexTarget n e at)) K
 end_index _ place n at e K = Stops
 
-abbrev pub end_counted : TokenKind → Place → AssignOp → Pos → Ident → Pos → ExprTree → List StmtFrame → StmtNext
+abbrev pub end_counted : TokenKind → Part → AssignOp → Pos → Ident → Pos → ExprTree → List StmtFrame → StmtNext
 end_counted (MarkKind CloseBracket) place op pos n at e K = GoesOn (Assigned place (AssignTree (IndexTarget n e at) op None pos)) K
 end_counted _ place op pos n at e K = Stops
 

@@ -18,33 +18,13 @@ use Rattle.ocl_tokens.specs.declared.words.Word.TheVariants.{UnderscoreKernel, K
 use Rattle.ocl_parser.specs.declared.scalars.Scalar.{Scalar}
 use Rattle.ocl_parser.specs.Scalars.{scalar_elem}
 use Rattle.ocl_parser.specs.ScalarSteps.{scalar_first, scalar_more}
-use Rattle.ocl_parser.specs.StmtSteps.{StmtFocus, ItemStart, StmtFrame, BlockFrame, StmtNext, GoesOn, Closes, Stops, stmt_step}
+use Rattle.ocl_parser.specs.StmtSteps.{StmtNext, GoesOn, Closes, Stops, stmt_step}
+use Rattle.ocl_parser.specs.declared.states.Head.{Head}
+use Rattle.ocl_parser.specs.declared.states.StmtFocus.TheVariants.{ItemStart}
+use Rattle.ocl_parser.specs.declared.states.StmtFrame.TheVariants.{Block as BlockFrame}
+use Rattle.ocl_parser.specs.declared.states.UnitFocus.{UnitFocus}
+use Rattle.ocl_parser.specs.declared.states.UnitFocus.TheVariants.{Outside, KernelRead, HelperWords, GivesRead, HeadRead, HeadNamed, ParamsOpen, VoidRead, ParamWords, ParamScalar, ParamType, Starred, ParamNamed, ParamsClosed, Inside, AtEnd}
 use Rattle.ocl_parser.specs.Units.{is_constant}
-
--- what stands before a function's parameters
-pub record Head : Type 0 where
-  pub kernel : Bool
-  pub gives : Gives
-  pub name : Ident
-
--- what has been read of a function
-pub data UnitFocus : Type 0 where
-  Outside : UnitFocus
-  KernelRead : UnitFocus
-  HelperWords : UnitFocus
-  GivesRead : Scalar → UnitFocus
-  HeadRead : Bool → Gives → UnitFocus
-  HeadNamed : Head → UnitFocus
-  ParamsOpen : Head → UnitFocus
-  VoidRead : Head → UnitFocus
-  ParamWords : Head → List Param → Option Space → Bool → UnitFocus
-  ParamScalar : Head → List Param → Option Space → Bool → Scalar → UnitFocus
-  ParamType : Head → List Param → Option Space → Bool → Elem → UnitFocus
-  Starred : Head → List Param → ParamKind → Bool → UnitFocus
-  ParamNamed : Head → List Param → UnitFocus
-  ParamsClosed : Head → List Param → UnitFocus
-  Inside : Head → List Param → StmtFocus → List StmtFrame → UnitFocus
-  AtEnd : UnitFocus
 
 -- What a token does: the reading goes on with a further function or without; or no file goes on with it.
 pub data UnitNext : Type 0 where

@@ -12,9 +12,13 @@ pub struct ExprFrames {
 
 impl Model for ExprFrames {
     ghost use Rattle.std.specs.Prelude.{List, reverse};
+    ghost use Rattle.std.specs.Coded.{codes};
+    ghost use Rattle.ocl_parser.specs.contracts.states.ExprFrame as e;
     ghost use Rattle.ocl_parser.specs.declared.states.ExprFrame.{ExprFrame};
 
     ghost Value = { List ExprFrame };
+
+    ghost coded = { Prim.hlevel (codes, e.the_row.coded) };
 
     ghost view = { λ f. reverse f.items.items };
 }
@@ -30,9 +34,13 @@ pub struct StmtFrames {
 
 impl Model for StmtFrames {
     ghost use Rattle.std.specs.Prelude.{List, reverse};
+    ghost use Rattle.std.specs.Coded.{codes};
+    ghost use Rattle.ocl_parser.specs.contracts.states.StmtFrame as e;
     ghost use Rattle.ocl_parser.specs.declared.states.StmtFrame.{StmtFrame};
 
     ghost Value = { List StmtFrame };
+
+    ghost coded = { Prim.hlevel (codes, e.the_row.coded) };
 
     ghost view = { λ f. reverse f.items.items };
 }

@@ -3,7 +3,7 @@
 use crate::operators::Infix;
 use crate::scalars::Scalar;
 use crate::stacks::{ExprFrames, StmtFrames};
-use crate::trees::{Args, Place, Statement, Statements, Tree};
+use crate::trees::{Args, Destination, Statement, Statements, Tree};
 use ocl_ast::{AssignOp, Gives, Ident, ParamList, UnOp};
 use vx_base::{Elem, ParamKind, Pos, Space};
 
@@ -68,7 +68,7 @@ pub enum Purpose {
     /// The index of a target behind `++` or `--`.
     CountedIndexOf(Part, AssignOp, Pos, Ident, Pos),
     /// What is assigned.
-    ValueOf(Part, Place, AssignOp, Pos),
+    ValueOf(Part, Destination, AssignOp, Pos),
     /// An argument of a call.
     ArgsOf(Ident, Args),
     /// The test of an `if`.
@@ -152,7 +152,7 @@ pub enum StmtFocus {
     /// `++` or `--`, and a name.
     CountedNamed(Part, AssignOp, Pos, Ident),
     /// A target.
-    Targeted(Part, Place),
+    Targeted(Part, Destination),
     /// A whole assignment.
     Assigned(Part, Statement),
     /// A name and a `(`.

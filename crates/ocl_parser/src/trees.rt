@@ -13,10 +13,14 @@ pub struct Tree {
 }
 
 impl Model for Tree {
+    ghost use Rattle.std.specs.Coded.{codes};
+    ghost use Rattle.ocl_ast.specs.ExprCodes.{expr_code};
     ghost use Rattle.ocl_ast.specs.Shapes.{tree_of};
     ghost use Rattle.ocl_ast.specs.Trees.{ExprTree};
 
     ghost Value = { ExprTree };
+
+    ghost coded = { expr_code (Prim.hlevel codes) };
 
     ghost view = { λ t. tree_of t.expr };
 }
@@ -31,26 +35,34 @@ pub struct Args {
 }
 
 impl Model for Args {
+    ghost use Rattle.std.specs.Coded.{codes};
+    ghost use Rattle.ocl_ast.specs.ExprCodes.{args_code};
     ghost use Rattle.ocl_ast.specs.Shapes.{arg_trees};
     ghost use Rattle.ocl_ast.specs.Trees.{ArgTrees};
 
     ghost Value = { ArgTrees };
+
+    ghost coded = { args_code (Prim.hlevel codes) };
 
     ghost view = { λ t. arg_trees t.items.items };
 }
 
 /// What an assignment changes.
 #[derive(Debug, Drop)]
-pub struct Place {
+pub struct Destination {
     /// The target.
     target: Target,
 }
 
-impl Model for Place {
+impl Model for Destination {
+    ghost use Rattle.std.specs.Coded.{codes};
+    ghost use Rattle.ocl_ast.specs.ExprCodes.{expr_code};
     ghost use Rattle.ocl_ast.specs.Shapes.{target_tree};
     ghost use Rattle.ocl_ast.specs.Trees.{TargetTree};
 
     ghost Value = { TargetTree };
+
+    ghost coded = { let e = expr_code (Prim.hlevel codes) in Prim.hlevel (codes, e) };
 
     ghost view = { λ t. target_tree t.target };
 }
@@ -63,10 +75,15 @@ pub struct Statement {
 }
 
 impl Model for Statement {
+    ghost use Rattle.std.specs.Coded.{codes};
+    ghost use Rattle.ocl_ast.specs.ExprCodes.{expr_code, args_code};
+    ghost use Rattle.ocl_ast.specs.StmtCodes.{stmt_code};
     ghost use Rattle.ocl_ast.specs.Shapes.{stmt_tree};
     ghost use Rattle.ocl_ast.specs.Trees.{StmtTree};
 
     ghost Value = { StmtTree };
+
+    ghost coded = { let e = expr_code (Prim.hlevel codes) in let a = args_code (Prim.hlevel codes) in stmt_code (Prim.hlevel (codes, e, a)) };
 
     ghost view = { λ t. stmt_tree t.stmt };
 }
@@ -79,10 +96,15 @@ pub struct Statements {
 }
 
 impl Model for Statements {
+    ghost use Rattle.std.specs.Coded.{codes};
+    ghost use Rattle.ocl_ast.specs.ExprCodes.{expr_code, args_code};
+    ghost use Rattle.ocl_ast.specs.StmtCodes.{stmts_code};
     ghost use Rattle.ocl_ast.specs.Shapes.{stmt_trees};
     ghost use Rattle.ocl_ast.specs.Trees.{StmtTrees};
 
     ghost Value = { StmtTrees };
+
+    ghost coded = { let e = expr_code (Prim.hlevel codes) in let a = args_code (Prim.hlevel codes) in stmts_code (Prim.hlevel (codes, e, a)) };
 
     ghost view = { λ t. stmt_trees t.items.items };
 }
