@@ -1,6 +1,6 @@
 -- How the reader goes through an expression: an operand, or what has been read of one, inside frames that hold the finished parts
 -- to the left, the innermost first.
-use Rattle.std.specs.Prelude.{ℕ, Bool, true, false, cond, nat_lt, nat_eq, List, [], ◌∷◌, Option, Some, None}
+use Rattle.std.specs.Prelude.{ℕ, Bool, true, false, not, cond, nat_lt, nat_eq, List, [], ◌∷◌, Option, Some, None}
 use Rattle.vx_base.specs.declared.types.Elem.{Elem}
 use Rattle.vx_base.specs.declared.types.Pos.{Pos}
 use Rattle.ocl_ast.specs.declared.exprs.BinOp.{BinOp}
@@ -83,19 +83,32 @@ pub record Standing : Type 0 where
 abbrev pub standing : ExprTree → List ExprFrame → Standing
 standing e K = record { tree = e; frames = K }
 
--- Closes the frames that an operator of level n, or at 0 a token that is none, ends. A `?` is of level 1 here.
+-- An operator of level n, or at 0 a token that is none, ends the construct. A `?` is of level 1 here.
+abbrev pub ends : ℕ → ExprFrame → Bool
+ends n (UnaryFrame op pos) = true
+ends n (CastFrame elem pos) = true
+ends n (InfixFrame op left pos) = not (nat_lt (infix_level op) n)
+ends n (OtherFrame test one pos) = nat_eq n 0
+ends n (TestFrame test pos) = false
+ends n (IndexFrame array pos) = false
+ends n (ArgsFrame called args) = false
+ends n (ParenFrame pos) = false
+
+-- the construct with the expression in it, where nothing else closes it
+abbrev pub closed_by : ExprFrame → ExprTree → ExprTree
+closed_by (UnaryFrame op pos) e = UnaryTree op e pos
+closed_by (CastFrame elem pos) e = CastTree elem e pos
+closed_by (InfixFrame op left pos) e = infix_tree op left e pos
+closed_by (OtherFrame test one pos) e = ChooseTree test one e pos
+closed_by (TestFrame test pos) e = e
+closed_by (IndexFrame array pos) e = e
+closed_by (ArgsFrame called args) e = e
+closed_by (ParenFrame pos) e = e
+
+-- Closes the frames that end.
 abbrev pub settled : ℕ → ExprTree → List ExprFrame → Standing
 settled n e [] = standing e []
-settled n e (UnaryFrame op pos ∷ K) = settled n (UnaryTree op e pos) K
-settled n e (CastFrame elem pos ∷ K) = settled n (CastTree elem e pos) K
-settled n e (InfixFrame op left pos ∷ K) =
-    cond (nat_lt (infix_level op) n) (standing e (InfixFrame op left pos ∷ K)) (settled n (infix_tree op left e pos) K)
-settled n e (OtherFrame test one pos ∷ K) =
-    cond (nat_eq n 0) (settled n (ChooseTree test one e pos) K) (standing e (OtherFrame test one pos ∷ K))
-settled n e (TestFrame test pos ∷ K) = standing e (TestFrame test pos ∷ K)
-settled n e (IndexFrame array pos ∷ K) = standing e (IndexFrame array pos ∷ K)
-settled n e (ArgsFrame called args ∷ K) = standing e (ArgsFrame called args ∷ K)
-settled n e (ParenFrame pos ∷ K) = standing e (ParenFrame pos ∷ K)
+settled n e (f ∷ K) = cond (ends n f) (settled n (closed_by f e) K) (standing e (f ∷ K))
 
 -- an operand's first token
 abbrev pub operand_mark : Mark → Pos → List ExprFrame → ExprNext

@@ -1,7 +1,9 @@
 //! Frames, the innermost last in the code and first in contracts.
 
 use crate::states::{ExprFrame, StmtFrame};
+use std::alloc::Global;
 use std::marker::Model;
+use vx_base::Memory;
 
 /// What an expression stands in.
 #[derive(Debug, Drop)]
