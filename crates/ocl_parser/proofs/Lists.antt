@@ -1,5 +1,6 @@
 -- Lists of trees with one more at the end.
-use Rattle.std.proofs.Common.{◌≡◌, refl, ap, List, [], ◌∷◌, ◌++◌}
+use Rattle.std.proofs.Common.{◌≡◌, refl, ap, List, [], ◌∷◌, ◌++◌, reverse}
+use Rattle.std.proofs.lemmas.List.{reverse-append}
 use Rattle.ocl_ast.specs.Shapes.{tree_of, arg_trees, stmt_tree, stmt_trees}
 use Rattle.ocl_ast.specs.Trees.{AndArg, AndStmt}
 use Rattle.ocl_ast.specs.declared.exprs.Expr.{Expr}
@@ -14,3 +15,6 @@ arg_trees_push (x ∷ es) e = ap (AndArg (tree_of x)) (arg_trees_push es e)
 pub stmt_trees_push : (ss : List Stmt) (s : Stmt) → stmt_trees (ss ++ (s ∷ [])) ≡ and_stmt (stmt_trees ss) (stmt_tree s)
 stmt_trees_push [] s = refl
 stmt_trees_push (x ∷ ss) s = ap (AndStmt (stmt_tree x)) (stmt_trees_push ss s)
+
+pub reverse_push : {A : Type 0} (xs : List A) (x : A) → reverse (xs ++ (x ∷ [])) ≡ x ∷ reverse xs
+reverse_push xs x = reverse-append xs (x ∷ [])

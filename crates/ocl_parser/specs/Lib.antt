@@ -7,3 +7,4 @@ pub mod ScalarSteps
 pub mod ExprSteps
 pub mod StmtSteps
 pub mod UnitSteps
+pub mod Moves

@@ -1,6 +1,7 @@
 //! The parser.
 #![tactic(auto)]
 
+pub mod moves;
 pub mod operators;
 pub mod scalars;
 pub mod stacks;
