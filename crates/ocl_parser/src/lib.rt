@@ -1,7 +1,9 @@
 //! The parser.
 #![tactic(auto)]
 
+pub mod expr_steps;
 pub mod moves;
+pub mod names;
 pub mod operators;
 pub mod scalars;
 pub mod stacks;
