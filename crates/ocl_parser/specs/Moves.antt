@@ -1,9 +1,9 @@
 -- What the code answers for a token, together with the frames that it leaves.
-use Rattle.std.specs.Prelude.{ℕ, List, [], ◌∷◌, Option, Some, None}
+use Rattle.std.specs.Prelude.{ℕ, Bool, List, [], ◌∷◌, Option, Some, None}
 use Rattle.ocl_ast.specs.Trees.{ExprTree, StmtTree}
 use Rattle.ocl_ast.specs.Shapes.{function_tree}
 use Rattle.ocl_parser.specs.ExprSteps.{ExprNext, Goes, Ends, Refuses, Standing, standing, settled, closed_by}
-use Rattle.ocl_parser.specs.StmtSteps.{StmtNext, GoesOn, Closes, Stops}
+use Rattle.ocl_parser.specs.StmtSteps.{StmtNext, GoesOn, Closes, Stops, Placed, placed, finished, completed}
 use Rattle.ocl_parser.specs.UnitSteps.{UnitNext, Reads, Adds, Fails}
 use Rattle.ocl_parser.specs.declared.moves.ExprMove.{ExprMove}
 use Rattle.ocl_parser.specs.declared.moves.ExprMove.TheVariants.{On as ExprOn, Ended, Refused as ExprRefused}
@@ -33,3 +33,7 @@ unit_next UnitRefused = Fails
 abbrev pub settled_on : ℕ → Option ExprFrame → ExprTree → List ExprFrame → Standing
 settled_on n None e K = standing e K
 settled_on n (Some f) e K = settled n (closed_by f e) K
+
+abbrev pub finished_on : Bool → Option StmtFrame → StmtTree → List StmtFrame → Placed
+finished_on before_else None s K = placed s K
+finished_on before_else (Some f) s K = finished before_else (completed f s) K

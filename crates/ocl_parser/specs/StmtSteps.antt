@@ -1,6 +1,6 @@
 -- How the reader goes through the items of a function's body: what has been read of a statement, inside frames that hold the
 -- finished parts to the left, the innermost first.
-use Rattle.std.specs.Prelude.{Bool, true, false, cond, List, [], ◌∷◌, Option, Some, None}
+use Rattle.std.specs.Prelude.{Bool, true, false, not, cond, List, [], ◌∷◌, Option, Some, None}
 use Rattle.vx_base.specs.declared.types.Elem.{Elem}
 use Rattle.vx_base.specs.declared.types.Pos.{Pos}
 use Rattle.ocl_ast.specs.declared.exprs.BinOp.{BinOp}
@@ -329,15 +329,28 @@ pub record Placed : Type 0 where
 abbrev pub placed : StmtTree → List StmtFrame → Placed
 placed s K = record { tree = s; frames = K }
 
--- Closes the frames that a statement ends, where an `else` follows or not.
+-- The end of a statement in the construct ends it, where an `else` follows or not.
+abbrev pub ends_with : Bool → StmtFrame → Bool
+ends_with before_else (ThenFrame test) = not before_else
+ends_with before_else (ElseFrame test one) = true
+ends_with before_else (WhileFrame test) = true
+ends_with before_else (ForFrame first test step) = true
+ends_with before_else DoFrame = false
+ends_with before_else (BlockFrame items) = false
+
+-- the construct with the statement in it, where nothing else closes it
+abbrev pub completed : StmtFrame → StmtTree → StmtTree
+completed (ThenFrame test) s = IfTree test s
+completed (ElseFrame test one) s = IfElseTree test one s
+completed (WhileFrame test) s = WhileTree test s
+completed (ForFrame first test step) s = ForTree first test step s
+completed DoFrame s = s
+completed (BlockFrame items) s = s
+
+-- Closes the frames that end.
 abbrev pub finished : Bool → StmtTree → List StmtFrame → Placed
 finished before_else s [] = placed s []
-finished before_else s (ThenFrame test ∷ K) = cond before_else (placed s (ThenFrame test ∷ K)) (finished before_else (IfTree test s) K)
-finished before_else s (ElseFrame test one ∷ K) = finished before_else (IfElseTree test one s) K
-finished before_else s (WhileFrame test ∷ K) = finished before_else (WhileTree test s) K
-finished before_else s (ForFrame first test step ∷ K) = finished before_else (ForTree first test step s) K
-finished before_else s (DoFrame ∷ K) = placed s (DoFrame ∷ K)
-finished before_else s (BlockFrame items ∷ K) = placed s (BlockFrame items ∷ K)
+finished before_else s (f ∷ K) = cond (ends_with before_else f) (finished before_else (completed f s) K) (placed s (f ∷ K))
 
 abbrev pub is_else : TokenKind → Bool
 is_else (WordKind Else) = true
