@@ -1,6 +1,6 @@
 -- How the reader goes through the items of a function's body: what has been read of a statement, inside frames that hold the
 -- finished parts to the left, the innermost first.
-use Rattle.std.specs.Prelude.{Bool, true, false, not, cond, List, [], ◌∷◌, Option, Some, None}
+use Rattle.std.specs.Prelude.{Bool, true, false, not, cond, nat_eq, length, List, [], ◌∷◌, Option, Some, None}
 use Rattle.vx_base.specs.declared.types.Elem.{Elem}
 use Rattle.vx_base.specs.declared.types.Pos.{Pos}
 use Rattle.ocl_ast.specs.declared.exprs.BinOp.{BinOp}
@@ -300,9 +300,12 @@ body_step (MarkKind m) pos K = body_mark m pos K
 body_step _ pos K = Stops
 
 -- the first token of an item of a block
+abbrev pub close_items : Bool → StmtTrees → List StmtFrame → StmtNext
+close_items true items K = Closes items
+close_items false items K = GoesOn (Finished (BlockTree items)) K
+
 abbrev pub close_block : List StmtFrame → StmtNext
-close_block (BlockFrame items ∷ []) = Closes items
-close_block (BlockFrame items ∷ f ∷ K) = GoesOn (Finished (BlockTree items)) (f ∷ K)
+close_block (BlockFrame items ∷ K) = close_items (nat_eq (length K) 0) items K
 close_block _ = Stops
 
 abbrev pub item_scalar : Option Scalar → Word → Pos → List StmtFrame → StmtNext

@@ -1,7 +1,12 @@
 //! The parser.
 #![tactic(auto)]
 
+pub mod assigns;
+pub mod declares;
+pub mod ends;
 pub mod expr_steps;
+pub mod heads;
+pub mod items;
 pub mod moves;
 pub mod names;
 pub mod operators;

@@ -145,6 +145,13 @@ impl StmtFrames {
         }
     }
 
+    /// How many frames there are.
+    pub fn len(&self) -> usize
+        ensures { result ≡ length self.now }
+    {
+        self.items.len()
+    }
+
     /// How many levels of statements there are around the next statement.
     pub fn levels(&self) -> u32 {
         match self.items.last() {
