@@ -1,1 +1,4 @@
 pub mod Lists
+pub mod Texts
+pub mod ExprTexts
+pub mod ExprSound
