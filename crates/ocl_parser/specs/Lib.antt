@@ -8,3 +8,4 @@ pub mod ExprSteps
 pub mod StmtSteps
 pub mod UnitSteps
 pub mod Moves
+pub mod Runs

@@ -60,6 +60,11 @@ impl ExprFrames {
         Ok(())
     }
 
+    /// The innermost frame, which stays.
+    pub fn last(&self) -> Option<&ExprFrame> {
+        self.items.last()
+    }
+
     /// The innermost frame.
     #[tactic(auto, using(crate::proofs::Lists::reverse_push))]
     pub fn pop(&mut self) -> Option<ExprFrame>
