@@ -2,3 +2,5 @@ pub mod Lists
 pub mod Texts
 pub mod ExprTexts
 pub mod ExprSound
+pub mod ScalarComplete
+pub mod ExprComplete
