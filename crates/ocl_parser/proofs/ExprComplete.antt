@@ -72,7 +72,7 @@ pub record Takes (accepts : ExprFocus → List ExprFrame → Rest) : Type 0 wher
   pub alike : (t : Token) (ts : List Token) (focus : ExprFocus) (K : List ExprFrame) (focus' : ExprFocus) (K' : List ExprFrame) →
       expr_step t.kind t.pos focus K ≡ expr_step t.kind t.pos focus' K' → accepts focus' K' (t ∷ ts) → accepts focus K (t ∷ ts)
 
-abbrev Starts : Rest
+abbrev pub Starts : Rest
 Starts [] = ⊥
 Starts (t ∷ ts) = is_first t.kind ≡ true
 
@@ -87,7 +87,7 @@ unary_first Not = refl
 unary_first Flip = refl
 
 -- an expression begins with a token that may begin one
-starts : (e : ExprTree) (k : Rest) (ts : List Token) → expr_text e k ts → Starts ts
+pub starts : (e : ExprTree) (k : Rest) (ts : List Token) → expr_text e k ts → Starts ts
 starts (NumberTree value unsigned pos) k ts h = one_starts _ k (λ t x. ap is_first x.0) ts h
 starts (NameTree n) k ts h = one_starts _ k (λ t x. ap is_first x.0) ts h
 starts (UnaryTree op part pos) k ts h = one_starts _ _ (λ t x. ap is_first x.0 ∙ unary_first op) ts h
@@ -182,6 +182,20 @@ level_bounds (Op Xor) = (omega arith, omega arith)
 level_bounds (Op Or) = (omega arith, omega arith)
 level_bounds Both = (omega arith, omega arith)
 level_bounds Either = (omega arith, omega arith)
+
+-- arguments behind others
+abbrev pub all_args : ArgTrees → ArgTrees → ArgTrees
+all_args done NoArgs = done
+all_args done (AndArg arg args) = all_args (and_arg done arg) args
+
+pub all_first : (x : ExprTree) (done args : ArgTrees) → all_args (AndArg x done) args ≡ AndArg x (all_args done args)
+all_first x done NoArgs = refl
+all_first x done (AndArg arg args) = all_first x (and_arg done arg) args
+
+pub all_none : (args : ArgTrees) → all_args NoArgs args ≡ args
+all_none NoArgs = refl
+all_none (AndArg arg args) = all_first arg NoArgs args ∙ ap (AndArg arg) (all_none args)
+
 
 -- frames that stop every operator
 abbrev IsStop : ExprFrame → Type 0
@@ -293,18 +307,6 @@ module _ (accepts : ExprFocus → List ExprFrame → Rest) (T : Takes accepts) w
   -- a prefix operator or a cast binds its operand alone
   prefix_waits : (part : ExprTree) (K : List ExprFrame) → 11 ≤ rank part → Waits (rank part) K
   prefix_waits part K g = record { still = λ m a b c x. absurd (omega arith) }
-
-  abbrev all_args : ArgTrees → ArgTrees → ArgTrees
-  all_args done NoArgs = done
-  all_args done (AndArg arg args) = all_args (and_arg done arg) args
-
-  all_first : (x : ExprTree) (done args : ArgTrees) → all_args (AndArg x done) args ≡ AndArg x (all_args done args)
-  all_first x done NoArgs = refl
-  all_first x done (AndArg arg args) = all_first x (and_arg done arg) args
-
-  all_none : (args : ArgTrees) → all_args NoArgs args ≡ args
-  all_none NoArgs = refl
-  all_none (AndArg arg args) = all_first arg NoArgs args ∙ ap (AndArg arg) (all_none args)
 
   more_follows : (args : ArgTrees) (k : Rest) → Leads (more_args_text args (mark CloseParen k)) Follows
   more_follows NoArgs k = behind_one CloseParen refl

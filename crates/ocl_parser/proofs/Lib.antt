@@ -4,3 +4,5 @@ pub mod ExprTexts
 pub mod ExprSound
 pub mod ScalarComplete
 pub mod ExprComplete
+pub mod StmtTakes
+pub mod AssignComplete
