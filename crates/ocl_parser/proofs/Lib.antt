@@ -6,3 +6,5 @@ pub mod ScalarComplete
 pub mod ExprComplete
 pub mod StmtTakes
 pub mod AssignComplete
+pub mod DeclareComplete
+pub mod StmtComplete
