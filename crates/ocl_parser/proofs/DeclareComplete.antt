@@ -57,7 +57,7 @@ word_starts : (w : Word) → is_type_first (WordKind w) ≡ true → (k : Rest) 
 word_starts w e k [] h = h
 word_starts w e k (t ∷ ts) h = ap is_type_first h.0 ∙ e
 
-scalar_starts : (s : Scalar) (k : Rest) (ts : List Token) → words (scalar_words s) k ts → TypeStarts ts
+pub scalar_starts : (s : Scalar) (k : Rest) (ts : List Token) → words (scalar_words s) k ts → TypeStarts ts
 scalar_starts OnlySigned k ts h = word_starts Signed refl _ ts h
 scalar_starts OnlyUnsigned k ts h = word_starts Unsigned refl _ ts h
 scalar_starts (Chars NoSign) k ts h = word_starts Char refl _ ts h
@@ -84,16 +84,16 @@ type_starts elem constant k (t ∷ ts) (inl h) = scalar_starts h.0 _ (t ∷ ts) 
 type_starts elem constant k (t ∷ ts) (inr (inl h)) = ap is_type_first h.0
 type_starts elem constant k (t ∷ ts) (inr (inr h)) = ap is_type_first h.0
 
-not_none : {A : Type 0} {x : A} → None ≡ Some x → ⊥
+pub not_none : {A : Type 0} {x : A} → None ≡ Some x → ⊥
 not_none e = cc
 
-const_more : (s : Scalar) → scalar_more s Const ≡ None
+pub const_more : (s : Scalar) → scalar_more s Const ≡ None
 const_more OnlySigned = refl
 const_more OnlyUnsigned = refl
 const_more (Shorts sign) = refl
 const_more _ = refl
 
-volatile_more : (s : Scalar) → scalar_more s Volatile ≡ None
+pub volatile_more : (s : Scalar) → scalar_more s Volatile ≡ None
 volatile_more OnlySigned = refl
 volatile_more OnlyUnsigned = refl
 volatile_more (Shorts sign) = refl

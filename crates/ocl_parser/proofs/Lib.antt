@@ -8,3 +8,4 @@ pub mod StmtTakes
 pub mod AssignComplete
 pub mod DeclareComplete
 pub mod StmtComplete
+pub mod BodyComplete

@@ -103,26 +103,26 @@ item_as (WordKind Continue) h pos K = refl
 item_as (WordKind Return) h pos K = refl
 item_as _ h pos K = absurd (true≢false (sym h))
 
-body_assign : (kind : TokenKind) → is_assign_first kind ≡ true → (pos : Pos) (K : List StmtFrame) → body_step kind pos K ≡ assign_start kind pos InBlock K
+pub body_assign : (kind : TokenKind) → is_assign_first kind ≡ true → (pos : Pos) (K : List StmtFrame) → body_step kind pos K ≡ assign_start kind pos InBlock K
 body_assign (NameKind text) h pos K = refl
 body_assign (MarkKind PlusPlus) h pos K = refl
 body_assign (MarkKind MinusMinus) h pos K = refl
 body_assign _ h pos K = absurd (true≢false (sym h))
 
-first_assign : (kind : TokenKind) → is_assign_first kind ≡ true → (pos : Pos) (K : List StmtFrame) → first_start kind pos K ≡ assign_start kind pos (InFirst NoStmts) K
+pub first_assign : (kind : TokenKind) → is_assign_first kind ≡ true → (pos : Pos) (K : List StmtFrame) → first_start kind pos K ≡ assign_start kind pos (InFirst NoStmts) K
 first_assign (NameKind text) h pos K = refl
 first_assign (MarkKind PlusPlus) h pos K = refl
 first_assign (MarkKind MinusMinus) h pos K = refl
 first_assign _ h pos K = absurd (true≢false (sym h))
 
-step_assign : (kind : TokenKind) → is_assign_first kind ≡ true → (pos : Pos) (first : StmtTrees) (test : Option ExprTree) (K : List StmtFrame) →
+pub step_assign : (kind : TokenKind) → is_assign_first kind ≡ true → (pos : Pos) (first : StmtTrees) (test : Option ExprTree) (K : List StmtFrame) →
     step_start kind pos first test K ≡ assign_start kind pos (InStep first test NoStmts) K
 step_assign (NameKind text) h pos first test K = refl
 step_assign (MarkKind PlusPlus) h pos first test K = refl
 step_assign (MarkKind MinusMinus) h pos first test K = refl
 step_assign _ h pos first test K = absurd (true≢false (sym h))
 
-item_type : (kind : TokenKind) → is_type_first kind ≡ true → (pos : Pos) (K : List StmtFrame) → item_step kind pos K ≡ qualified_step kind InBlock false K
+pub item_type : (kind : TokenKind) → is_type_first kind ≡ true → (pos : Pos) (K : List StmtFrame) → item_step kind pos K ≡ qualified_step kind InBlock false K
 item_type (WordKind Const) h pos K = refl
 item_type (WordKind Volatile) h pos K = refl
 item_type (WordKind Char) h pos K = refl
@@ -136,15 +136,15 @@ item_type (WordKind Signed) h pos K = refl
 item_type (WordKind Unsigned) h pos K = refl
 item_type _ h pos K = absurd (true≢false (sym h))
 
-first_type : (kind : TokenKind) → is_type_first kind ≡ true → (pos : Pos) (K : List StmtFrame) → first_start kind pos K ≡ qualified_step kind (InFirst NoStmts) false K
+pub first_type : (kind : TokenKind) → is_type_first kind ≡ true → (pos : Pos) (K : List StmtFrame) → first_start kind pos K ≡ qualified_step kind (InFirst NoStmts) false K
 first_type (WordKind w) h pos K = refl
 first_type _ h pos K = absurd (true≢false (sym h))
 
-test_as : (kind : TokenKind) → is_first kind ≡ true → (pos : Pos) (first : StmtTrees) (K : List StmtFrame) → test_start kind pos first K ≡ begin_step kind pos (ForTest first) K
+pub test_as : (kind : TokenKind) → is_first kind ≡ true → (pos : Pos) (first : StmtTrees) (K : List StmtFrame) → test_start kind pos first K ≡ begin_step kind pos (ForTest first) K
 test_as (MarkKind Semicolon) h pos first K = absurd (true≢false (sym h))
 test_as _ h pos first K = refl
 
-return_as : (kind : TokenKind) → is_first kind ≡ true → (pos at : Pos) (K : List StmtFrame) → returning_step kind pos at K ≡ begin_step kind pos (ReturnOf at) K
+pub return_as : (kind : TokenKind) → is_first kind ≡ true → (pos at : Pos) (K : List StmtFrame) → returning_step kind pos at K ≡ begin_step kind pos (ReturnOf at) K
 return_as (MarkKind Semicolon) h pos at K = absurd (true≢false (sym h))
 return_as _ h pos at K = refl
 
@@ -158,7 +158,7 @@ FirstIs Starts [] = ⊥
 FirstIs Starts (t ∷ ts) = Starts t.kind ≡ true
 
 -- tokens before which no `if` waits for its `else`
-abbrev NoElse : Rest
+abbrev pub NoElse : Rest
 NoElse [] = ⊥
 NoElse (t ∷ ts) = is_else t.kind ≡ false
 
@@ -186,7 +186,7 @@ one_not : (p : Token → Type 0) (k : Rest) → ((t : Token) → p t → is_else
 one_not p k f [] h = h
 one_not p k f (t ∷ ts) h = f t h.0
 
-items_not : (ss : StmtTrees) (k : Rest) (ts : List Token) → items_text ss (mark CloseBrace k) ts → NoElse ts
+pub items_not : (ss : StmtTrees) (k : Rest) (ts : List Token) → items_text ss (mark CloseBrace k) ts → NoElse ts
 items_not NoStmts k ts h = one_not _ k (λ t x. ap is_else x) ts h
 items_not (AndStmt (DeclareTree elem constant n value) ss) k ts h = type_not ts (type_starts elem constant _ ts h)
 items_not (AndStmt (LocalArrayTree elem n count) ss) k ts h = one_not _ _ local_not ts h
@@ -229,7 +229,7 @@ all_stmts_none (AndStmt s ss) = all_stmts_first s NoStmts ss ∙ ap (AndStmt s) 
 pub record AlikeStmt (open_ : Bool) (x : StmtTree) (J : List StmtFrame) (s : StmtTree) (K : List StmtFrame) : Type 0 where
   pub finishes : (b : Bool) → (b ≡ true → open_ ≡ false) → finished b x J ≡ finished b s K
 
-self_alike : (open_ : Bool) (s : StmtTree) (K : List StmtFrame) → AlikeStmt open_ s K s K
+pub self_alike : (open_ : Bool) (s : StmtTree) (K : List StmtFrame) → AlikeStmt open_ s K s K
 self_alike open_ s K = record { finishes = λ b h. refl }
 
 module _ (accepts : StmtFocus → List StmtFrame → Rest) (T : TakesStmts accepts) where
@@ -245,14 +245,14 @@ module _ (accepts : StmtFocus → List StmtFrame → Rest) (T : TakesStmts accep
   start_in Starts focus focus' K s [] b a = absurd b
   start_in Starts focus focus' K s (t ∷ ts) b a = T.alike t ts focus K focus' K (s t.kind b t.pos) a
 
-  to_item : (K : List StmtFrame) (s : StmtTree) (k : Rest) → Leads (stmt_text s k) (accepts BodyStart K) → Leads (stmt_text s k) (accepts ItemStart K)
+  pub to_item : (K : List StmtFrame) (s : StmtTree) (k : Rest) → Leads (stmt_text s k) (accepts BodyStart K) → Leads (stmt_text s k) (accepts ItemStart K)
   to_item K s k f = record { by = λ ts h. start_in is_stmt_first ItemStart BodyStart K (λ kind b pos. item_as kind b pos K) ts (first_stmt ts (stmt_starts s k ts h)) (f.by ts h) }
 
   -- `;`, and the statement is whole
-  ends_stmt : (s : StmtTree) (K : List StmtFrame) {k : Rest} → Leads k (accepts (Finished s) K) → Leads (mark Semicolon k) (accepts (Ending s) K)
+  pub ends_stmt : (s : StmtTree) (K : List StmtFrame) {k : Rest} → Leads k (accepts (Finished s) K) → Leads (mark Semicolon k) (accepts (Ending s) K)
   ends_stmt s K f = stmt_one accepts T (MarkKind Semicolon) (Ending s) K (Finished s) K (λ p. refl) f
 
-  assign_from : (part : Part) (focus : StmtFocus) (K : List StmtFrame) →
+  pub assign_from : (part : Part) (focus : StmtFocus) (K : List StmtFrame) →
       ((kind : TokenKind) → is_assign_first kind ≡ true → (pos : Pos) → stmt_step kind pos focus K ≡ assign_start kind pos part K) →
       (target : TargetTree) (op : AssignOp) (value : Option ExprTree) (pos : Pos) → IsOrderly (AssignTree target op value pos) →
       (k : Rest) → Leads k Closers → Leads k (accepts (Assigned part (AssignTree target op value pos)) K) →
@@ -271,7 +271,7 @@ module _ (accepts : StmtFocus → List StmtFrame → Rest) (T : TakesStmts accep
       expr_mark accepts T Comma refl (ArgsOf n done) K arg g (Reading (ArgsOf n (and_arg done arg)) Operand []) K refl
       (more_call n (and_arg done arg) b bs gs.0 gs.1 K k f)
 
-  call_read : (n : Ident) (args : ArgTrees) → AreGrouped args → (K : List StmtFrame) (k : Rest) → Leads k (accepts (Ending (CallStmtTree n args)) K) →
+  pub call_read : (n : Ident) (args : ArgTrees) → AreGrouped args → (K : List StmtFrame) (k : Rest) → Leads k (accepts (Ending (CallStmtTree n args)) K) →
       Leads (args_text args (mark CloseParen k)) (accepts (CallOpen n) K)
   call_read n NoArgs g K k f = stmt_one accepts T (MarkKind CloseParen) (CallOpen n) K (Ending (CallStmtTree n NoArgs)) K (λ p. refl) f
   call_read n (AndArg arg args) g K k f =
@@ -279,12 +279,12 @@ module _ (accepts : StmtFocus → List StmtFrame → Rest) (T : TakesStmts accep
       (more_call n NoArgs arg args g.0 g.1 K k
       (subst (λ z. Leads k (accepts (Ending (CallStmtTree n z)) K)) (sym (all_first arg NoArgs args ∙ ap (AndArg arg) (all_none args))) f))
 
-  number_in : (at : Pos) (K : List StmtFrame) (k : Rest) → Leads k (accepts (BarrierNumber at) K) → (ts : List Token) → one IsNumber k ts → accepts (BarrierOpen at) K ts
+  pub number_in : (at : Pos) (K : List StmtFrame) (k : Rest) → Leads k (accepts (BarrierNumber at) K) → (ts : List Token) → one IsNumber k ts → accepts (BarrierOpen at) K ts
   number_in at K k f [] h = absurd h
   number_in at K k f (t ∷ ts) h =
       T.goes t ts (BarrierOpen at) K (BarrierNumber at) K (ap (λ z. stmt_step z t.pos (BarrierOpen at) K) h.0.2) (f.by ts h.1)
 
-  numbers_in : (at : Pos) (K : List StmtFrame) (k : Rest) → Leads k (accepts (Ending (BarrierTree at)) K) →
+  pub numbers_in : (at : Pos) (K : List StmtFrame) (k : Rest) → Leads k (accepts (Ending (BarrierTree at)) K) →
       (ts : List Token) → more_numbers_text (mark CloseParen k) ts → accepts (BarrierNumber at) K ts
   numbers_in at K k f [] h = absurd h
   numbers_in at K k f (t ∷ []) h = (stmt_one accepts T (MarkKind CloseParen) (BarrierNumber at) K (Ending (BarrierTree at)) K (λ p. refl) f).by (t ∷ []) h
