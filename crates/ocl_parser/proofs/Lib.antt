@@ -9,3 +9,4 @@ pub mod AssignComplete
 pub mod DeclareComplete
 pub mod StmtComplete
 pub mod BodyComplete
+pub mod UnitComplete
