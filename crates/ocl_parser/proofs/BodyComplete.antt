@@ -82,15 +82,19 @@ module _ (accepts : StmtFocus → List StmtFrame → Rest) (T : TakesStmts accep
       Leads (items_text (AndStmt (LocalArrayTree elem n count) ss) (mark CloseBrace k)) (accepts ItemStart (BlockFrame done ∷ K))
   local_item elem n count g ss done K k f =
       let s = LocalArrayTree elem n count in
-      record { by = local_in (BlockFrame done ∷ K) _ (record { by = λ ts h.
-        let behind : Leads (name n (mark OpenBracket (expr_text count (mark CloseBracket (mark Semicolon (items_text ss (mark CloseBrace k))))))) (accepts (LocalScalar h.0) (BlockFrame done ∷ K)) =
-            stmt_at accepts T (NameKind n.text) n.pos (LocalScalar h.0) (BlockFrame done ∷ K) (LocalNamed elem n) (BlockFrame done ∷ K)
-            (ap (λ z. GoesOn (LocalNamed z n) (BlockFrame done ∷ K)) h.1)
-            (stmt_one accepts T (MarkKind OpenBracket) (LocalNamed elem n) (BlockFrame done ∷ K) (Reading (CountOf elem n) Operand []) (BlockFrame done ∷ K) (λ p. refl)
-            (expr_mark accepts T CloseBracket refl (CountOf elem n) (BlockFrame done ∷ K) count g (Ending s) (BlockFrame done ∷ K) refl
-            (ends_stmt accepts T s (BlockFrame done ∷ K)
-            (after_item s s (BlockFrame done ∷ K) done K (self_alike _ _ _) ss k f)))) in
-        (scalar_complete (local_words (BlockFrame done ∷ K)) _ h.0 behind).by ts h.2 }) }
+      record {
+        by = local_in (BlockFrame done ∷ K) _ (record {
+          by = λ ts h.
+              let behind : Leads (name n (mark OpenBracket (expr_text count (mark CloseBracket (mark Semicolon (items_text ss (mark CloseBrace k))))))) (accepts (LocalScalar h.0) (BlockFrame done ∷ K)) =
+              stmt_at accepts T (NameKind n.text) n.pos (LocalScalar h.0) (BlockFrame done ∷ K) (LocalNamed elem n) (BlockFrame done ∷ K)
+              (ap (λ z. GoesOn (LocalNamed z n) (BlockFrame done ∷ K)) h.1)
+              (stmt_one accepts T (MarkKind OpenBracket) (LocalNamed elem n) (BlockFrame done ∷ K) (Reading (CountOf elem n) Operand []) (BlockFrame done ∷ K) (λ p. refl)
+              (expr_mark accepts T CloseBracket refl (CountOf elem n) (BlockFrame done ∷ K) count g (Ending s) (BlockFrame done ∷ K) refl
+              (ends_stmt accepts T s (BlockFrame done ∷ K)
+              (after_item s s (BlockFrame done ∷ K) done K (self_alike _ _ _) ss k f)))) in
+              (scalar_complete (local_words (BlockFrame done ∷ K)) _ h.0 behind).by ts h.2;
+        });
+      }
 
   -- assignments in the last part of a `for`
   closers_step : (ss : StmtTrees) (k : Rest) → Leads (more_assigns_text ss (mark CloseParen k)) Closers
@@ -147,7 +151,12 @@ module _ (accepts : StmtFocus → List StmtFrame → Rest) (T : TakesStmts accep
       let f1 = subst (λ z. Leads k (accepts (TestStart (all_stmts (and_stmt (and_stmt done s) (DeclareTree z c' n value)) ss)) K)) h.0 f in
       let f2 = subst (λ z. Leads k (accepts (TestStart (all_stmts (and_stmt (and_stmt done s) (DeclareTree elem z n value)) ss)) K)) h.1.0 f1 in
       record {
-        mark = Comma; kind = h.1.1.0; closes = refl; focus = NameNext (InFirst (and_stmt done s)) elem c; frames = K; steps = refl;
+        mark = Comma;
+        kind = h.1.1.0;
+        closes = refl;
+        focus = NameNext (InFirst (and_stmt done s)) elem c;
+        frames = K;
+        steps = refl;
         accepted = (declarator_complete accepts T (InFirst (and_stmt done s)) elem c n value g.0 K _
             (record { by = first_names elem c (and_stmt done s) (DeclareTree elem c n value) ss g.1 K k f2 })).by ts h.1.1.1;
       }
@@ -209,8 +218,12 @@ module _ (accepts : StmtFocus → List StmtFrame → Rest) (T : TakesStmts accep
         let s = BarrierTree pos in
         stmt_at accepts T (WordKind Barrier) pos BodyStart (f ∷ K) (BarrierWord pos) (f ∷ K) refl
         (stmt_one accepts T (MarkKind OpenParen) (BarrierWord pos) (f ∷ K) (BarrierOpen pos) (f ∷ K) (λ p. refl)
-        (record { by = number_in accepts T pos (f ∷ K) _ (record { by =
-          numbers_in accepts T pos (f ∷ K) _ (ends_stmt accepts T s (f ∷ K) (on s (f ∷ K) (self_alike _ _ _))) }) }))
+        (record {
+          by = number_in accepts T pos (f ∷ K) _ (record {
+            by =
+                numbers_in accepts T pos (f ∷ K) _ (ends_stmt accepts T s (f ∷ K) (on s (f ∷ K) (self_alike _ _ _)));
+          });
+        }))
     read_stmt (IfTree test body) g f K k on =
         stmt_one accepts T (WordKind If) BodyStart (f ∷ K) IfWord (f ∷ K) (λ p. refl)
         (stmt_one accepts T (MarkKind OpenParen) IfWord (f ∷ K) (Reading IfTest Operand []) (f ∷ K) (λ p. refl)
@@ -221,9 +234,9 @@ module _ (accepts : StmtFocus → List StmtFrame → Rest) (T : TakesStmts accep
         (stmt_one accepts T (MarkKind OpenParen) IfWord (f ∷ K) (Reading IfTest Operand []) (f ∷ K) (λ p. refl)
         (expr_mark accepts T CloseParen refl IfTest (f ∷ K) test g.0 BodyStart (ThenFrame test ∷ f ∷ K) refl
         (read_stmt one_ g.2 (ThenFrame test) (f ∷ K) _ (λ x J a.
-          stmt_one accepts T (WordKind Else) (Finished x) J BodyStart (ElseFrame test one_ ∷ f ∷ K)
-          (λ p. ap (finished_step (WordKind Else) p) (a.finishes true (λ e. g.1)))
-          (read_stmt other g.3 (ElseFrame test one_) (f ∷ K) k (λ y J' a'. on y J' (record { finishes = λ b h. a'.finishes b h })))))))
+        stmt_one accepts T (WordKind Else) (Finished x) J BodyStart (ElseFrame test one_ ∷ f ∷ K)
+        (λ p. ap (finished_step (WordKind Else) p) (a.finishes true (λ e. g.1)))
+        (read_stmt other g.3 (ElseFrame test one_) (f ∷ K) k (λ y J' a'. on y J' (record { finishes = λ b h. a'.finishes b h })))))))
     read_stmt (WhileTree test body) g f K k on =
         stmt_one accepts T (WordKind While) BodyStart (f ∷ K) WhileWord (f ∷ K) (λ p. refl)
         (stmt_one accepts T (MarkKind OpenParen) WhileWord (f ∷ K) (Reading WhileTest Operand []) (f ∷ K) (λ p. refl)
@@ -233,11 +246,11 @@ module _ (accepts : StmtFocus → List StmtFrame → Rest) (T : TakesStmts accep
         let s = DoTree body test in
         stmt_one accepts T (WordKind Do) BodyStart (f ∷ K) BodyStart (DoFrame ∷ f ∷ K) (λ p. refl)
         (read_stmt body g.0 DoFrame (f ∷ K) _ (λ x J a.
-          stmt_one accepts T (WordKind While) (Finished x) J (DoWhile body) (f ∷ K)
-          (λ p. ap (finished_step (WordKind While) p) (a.finishes false (λ e. absurd (true≢false (sym e)))))
-          (stmt_one accepts T (MarkKind OpenParen) (DoWhile body) (f ∷ K) (Reading (DoTest body) Operand []) (f ∷ K) (λ p. refl)
-          (expr_mark accepts T CloseParen refl (DoTest body) (f ∷ K) test g.1 (Ending s) (f ∷ K) refl
-          (ends_stmt accepts T s (f ∷ K) (on s (f ∷ K) (self_alike _ _ _)))))))
+        stmt_one accepts T (WordKind While) (Finished x) J (DoWhile body) (f ∷ K)
+        (λ p. ap (finished_step (WordKind While) p) (a.finishes false (λ e. absurd (true≢false (sym e)))))
+        (stmt_one accepts T (MarkKind OpenParen) (DoWhile body) (f ∷ K) (Reading (DoTest body) Operand []) (f ∷ K) (λ p. refl)
+        (expr_mark accepts T CloseParen refl (DoTest body) (f ∷ K) test g.1 (Ending s) (f ∷ K) refl
+        (ends_stmt accepts T s (f ∷ K) (on s (f ∷ K) (self_alike _ _ _)))))))
     read_stmt (ForTree first test step body) g f K k on =
         stmt_one accepts T (WordKind For) BodyStart (f ∷ K) ForWord (f ∷ K) (λ p. refl)
         (stmt_one accepts T (MarkKind OpenParen) ForWord (f ∷ K) FirstStart (f ∷ K) (λ p. refl)
@@ -284,7 +297,12 @@ module _ (accepts : StmtFocus → List StmtFrame → Rest) (T : TakesStmts accep
         let f2 = subst (λ z. Leads (mark CloseBrace k) (accepts ItemStart (BlockFrame (all_stmts (and_stmt (and_stmt done s) (DeclareTree elem z n value)) ss) ∷ K))) h.1.0 f1 in
         let s' = DeclareTree elem c n value in
         record {
-          mark = Comma; kind = h.1.1.0; closes = refl; focus = NameNext InBlock elem c; frames = BlockFrame (and_stmt done s) ∷ K; steps = refl;
+          mark = Comma;
+          kind = h.1.1.0;
+          closes = refl;
+          focus = NameNext InBlock elem c;
+          frames = BlockFrame (and_stmt done s) ∷ K;
+          steps = refl;
           accepted = (declarator_complete accepts T InBlock elem c n value g.0 (BlockFrame (and_stmt done s) ∷ K) _
               (record { by = read_names elem c (and_stmt done s) s' ss g.1 K k f2 (read_items ss g.1 (and_stmt (and_stmt done s) s') K k f2) })).by ts h.1.1.1;
         }

@@ -214,7 +214,7 @@ module _ (accepts : StmtFocus → List StmtFrame → Rest) (T : TakesStmts accep
       (c : Bool) (ts : List Token) → scalar elem (qualifiers c (λ both. given (both ≡ constant) k)) ts → accepts (QualifiersRead part c) K ts
   type_words part elem constant K k n f c ts h =
       let behind : Leads (qualifiers c (λ both. given (both ≡ constant) k)) (accepts (ScalarRead part c h.0) K) =
-          record { by = scalar_in part h.0 constant K k n (subst (λ z. Leads k (accepts (NameNext part z constant) K)) (sym h.1) f) c } in
+      record { by = scalar_in part h.0 constant K k n (subst (λ z. Leads k (accepts (NameNext part z constant) K)) (sym h.1) f) c } in
       (scalar_complete (words_read part c K) _ h.0 behind).by ts h.2
 
   before_type : (part : Part) (elem : Elem) (constant : Bool) (K : List StmtFrame) (k : Rest) → Leads k NameFirst → Leads k (accepts (NameNext part elem constant) K) →
@@ -239,6 +239,8 @@ module _ (accepts : StmtFocus → List StmtFrame → Rest) (T : TakesStmts accep
       ((kind : TokenKind) → is_type_first kind ≡ true → (pos : Pos) → stmt_step kind pos focus K ≡ qualified_step kind part false K) →
       (elem : Elem) (constant : Bool) (n : Ident) (value : Option ExprTree) → IsGroupedIfAny value → (k : Rest) →
       Leads k (NameEnds part elem constant (DeclareTree elem constant n value) K) → Leads (declared_type elem constant (declarator_text n value k)) (accepts focus K)
-  declare_complete part focus K s elem constant n value g k f = record { by = λ ts h.
-      start_in part focus K s ts (type_starts elem constant _ ts h)
-      (before_type part elem constant K _ (record { by = declarator_first n value k }) (declarator_complete part elem constant n value g K k f) false ts h) }
+  declare_complete part focus K s elem constant n value g k f = record {
+    by = λ ts h.
+        start_in part focus K s ts (type_starts elem constant _ ts h)
+        (before_type part elem constant K _ (record { by = declarator_first n value k }) (declarator_complete part elem constant n value g K k f) false ts h);
+  }

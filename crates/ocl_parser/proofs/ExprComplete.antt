@@ -196,7 +196,6 @@ pub all_none : (args : ArgTrees) → all_args NoArgs args ≡ args
 all_none NoArgs = refl
 all_none (AndArg arg args) = all_first arg NoArgs args ∙ ap (AndArg arg) (all_none args)
 
-
 -- frames that stop every operator
 abbrev IsStop : ExprFrame → Type 0
 IsStop f = (m : ℕ) → ends m f ≡ false
@@ -295,12 +294,16 @@ module _ (accepts : ExprFocus → List ExprFrame → Rest) (T : Takes accepts) w
         follows = behind_at (infix_mark op) pos (infix_behind op);
         on = λ x J a. take_at (MarkKind (infix_mark op)) pos (Done x) J Operand (InfixFrame op l pos ∷ K)
             (done_infix op pos x J ∙ ap (infix_step op pos) (a.settles (infix_level op) low ∙ w.still (infix_level op) (omega arith) b.0 b.1 l))
-            (cr (InfixFrame op l pos ∷ K) (record { still = λ m h1 h2 h3 y. let t : nat_lt (infix_level op) m ≡ true = grind (arith, nat_tests) in
-                  ap (λ z. cond (not z) (settled m (infix_tree op l y pos) K) (standing y (InfixFrame op l pos ∷ K))) t }) k (record {
+            (cr (InfixFrame op l pos ∷ K) (record {
+              still = λ m h1 h2 h3 y. let t : nat_lt (infix_level op) m ≡ true = grind (arith, nat_tests) in
+                  ap (λ z. cond (not z) (settled m (infix_tree op l y pos) K) (standing y (InfixFrame op l pos ∷ K))) t;
+            }) k (record {
               follows = follows;
-              on = λ y J' a'. on y J' (record { settles = λ m h. let t : nat_lt (infix_level op) m ≡ false = grind (arith, nat_tests) in
-                  a'.settles m (omega arith) ∙
-                  ap (λ z. cond (not z) (settled m (infix_tree op l r pos) K) (standing r (InfixFrame op l pos ∷ K))) t });
+              on = λ y J' a'. on y J' (record {
+                settles = λ m h. let t : nat_lt (infix_level op) m ≡ false = grind (arith, nat_tests) in
+                    a'.settles m (omega arith) ∙
+                    ap (λ z. cond (not z) (settled m (infix_tree op l r pos) K) (standing r (InfixFrame op l pos ∷ K))) t;
+              });
             }));
       })
 
@@ -321,8 +324,8 @@ module _ (accepts : ExprFocus → List ExprFrame → Rest) (T : Takes accepts) w
     complete (UnaryTree op part pos) g K w k r =
         take_at (MarkKind (unary_mark op)) pos Operand K Operand (UnaryFrame op pos ∷ K) (unary_operand op pos K)
         (complete part g.1 (UnaryFrame op pos ∷ K) (prefix_waits part _ g.0) k (record {
-            follows = r.follows;
-            on = λ x J a. r.on x J (record { settles = λ m h. a.settles m (omega (arith, g.0)) });
+          follows = r.follows;
+          on = λ x J a. r.on x J (record { settles = λ m h. a.settles m (omega (arith, g.0)) });
         }))
     complete (BinaryTree op left right pos) g K w k r =
         between (Op op) left right pos g.0 g.1 (complete left g.2) (complete right g.3) K w k r.follows r.on
@@ -340,24 +343,29 @@ module _ (accepts : ExprFocus → List ExprFrame → Rest) (T : Takes accepts) w
                 on = λ y J' a'. take (MarkKind Colon) (Done y) J' Operand (OtherFrame test one_ pos ∷ K)
                     (λ p. closes Colon p y J' one_ (TestFrame test pos) K refl (λ m. refl) a')
                     (complete other g.3 (OtherFrame test one_ pos ∷ K) (record {
-                        still = λ m h1 h2 h3 z. let t : nat_eq m 0 ≡ false = grind (arith, nat_tests) in
-                          ap (λ b. cond b (settled m (ChooseTree test one_ z pos) K) (standing z (OtherFrame test one_ pos ∷ K))) t }) k (record {
+                      still = λ m h1 h2 h3 z. let t : nat_eq m 0 ≡ false = grind (arith, nat_tests) in
+                          ap (λ b. cond b (settled m (ChooseTree test one_ z pos) K) (standing z (OtherFrame test one_ pos ∷ K))) t;
+                    }) k (record {
                       follows = r.follows;
-                      on = λ z J'' a''. r.on z J'' (record { settles = λ m h. let t : nat_eq m 0 ≡ true = grind (arith, nat_tests) in
-                          a''.settles m (omega arith) ∙
-                          ap (λ b. cond b (settled m (ChooseTree test one_ other pos) K) (standing other (OtherFrame test one_ pos ∷ K))) t });
+                      on = λ z J'' a''. r.on z J'' (record {
+                        settles = λ m h. let t : nat_eq m 0 ≡ true = grind (arith, nat_tests) in
+                            a''.settles m (omega arith) ∙
+                            ap (λ b. cond b (settled m (ChooseTree test one_ other pos) K) (standing other (OtherFrame test one_ pos ∷ K))) t;
+                      });
                     }));
               }));
         })
     complete (CastTree elem part pos) g K w k r =
-        take_at (MarkKind OpenParen) pos Operand K (Opened pos) K refl (record { by = λ ts h.
-          let behind : Leads (mark CloseParen (expr_text part k)) (accepts (Casting h.0 pos) K) =
+        take_at (MarkKind OpenParen) pos Operand K (Opened pos) K refl (record {
+          by = λ ts h.
+              let behind : Leads (mark CloseParen (expr_text part k)) (accepts (Casting h.0 pos) K) =
               take (MarkKind CloseParen) (Casting h.0 pos) K Operand (CastFrame elem pos ∷ K) (λ p. ap (λ z. Goes Operand (CastFrame z pos ∷ K)) h.1)
               (complete part g.1 (CastFrame elem pos ∷ K) (prefix_waits part _ g.0) k (record {
-                  follows = r.follows;
-                  on = λ x J a. r.on x J (record { settles = λ m b. a.settles m (omega (arith, g.0)) });
+                follows = r.follows;
+                on = λ x J a. r.on x J (record { settles = λ m b. a.settles m (omega (arith, g.0)) });
               })) in
-          (scalar_complete (casts pos K) _ h.0 behind).by ts h.2 })
+              (scalar_complete (casts pos K) _ h.0 behind).by ts h.2;
+        })
     complete (IndexTree array place pos) g K w k r =
         take_at (NameKind array.text) array.pos Operand K (Named array) K refl
         (take_at (MarkKind OpenBracket) pos (Named array) K Operand (IndexFrame array pos ∷ K) refl
@@ -371,25 +379,29 @@ module _ (accepts : ExprFocus → List ExprFrame → Rest) (T : Takes accepts) w
         take_at (NameKind n.text) n.pos Operand K (Named n) K refl
         (take (MarkKind OpenParen) (Named n) K (Calling n) K (λ p. refl) (call_args n args g K k (r.on (CallTree n args) K (alike_self _ _ _))))
     complete (ParenTree part pos) g K w k r =
-        take_at (MarkKind OpenParen) pos Operand K (Opened pos) K refl (record { by = λ ts h.
-          opened_in pos K ts (starts part _ ts h)
-          ((complete part g (ParenFrame pos ∷ K) (stop_waits _ (ParenFrame pos) K (λ m. refl)) _ (record {
-            follows = behind_one CloseParen refl;
-            on = λ x J a. take (MarkKind CloseParen) (Done x) J (Done (ParenTree part pos)) K
-                (λ p. closes CloseParen p x J part (ParenFrame pos) K refl (λ m. refl) a)
-                (r.on (ParenTree part pos) K (alike_self _ _ _));
-          })).by ts h) })
+        take_at (MarkKind OpenParen) pos Operand K (Opened pos) K refl (record {
+          by = λ ts h.
+              opened_in pos K ts (starts part _ ts h)
+              ((complete part g (ParenFrame pos ∷ K) (stop_waits _ (ParenFrame pos) K (λ m. refl)) _ (record {
+                follows = behind_one CloseParen refl;
+                on = λ x J a. take (MarkKind CloseParen) (Done x) J (Done (ParenTree part pos)) K
+                    (λ p. closes CloseParen p x J part (ParenFrame pos) K refl (λ m. refl) a)
+                    (r.on (ParenTree part pos) K (alike_self _ _ _));
+              })).by ts h);
+        })
 
     call_args : (n : Ident) (args : ArgTrees) → AreGrouped args → (K : List ExprFrame) (k : Rest) → Leads k (accepts (Done (CallTree n args)) K) →
         Leads (args_text args (mark CloseParen k)) (accepts (Calling n) K)
     call_args n NoArgs g K k f = take (MarkKind CloseParen) (Calling n) K (Done (CallTree n NoArgs)) K (λ p. refl) f
-    call_args n (AndArg arg args) g K k f = record { by = λ ts h.
-        calling_in n K ts (starts arg _ ts h)
-        ((complete arg g.0 (ArgsFrame n NoArgs ∷ K) (stop_waits _ (ArgsFrame n NoArgs) K (λ m. refl)) _ (record {
-          follows = more_follows args k;
-          on = λ x J a. more_args n NoArgs arg args g.1 x J {K = K} a k
-              (subst (λ z. Leads k (accepts (Done (CallTree n z)) K)) (sym (all_first arg NoArgs args ∙ ap (AndArg arg) (all_none args))) f);
-        })).by ts h) }
+    call_args n (AndArg arg args) g K k f = record {
+      by = λ ts h.
+          calling_in n K ts (starts arg _ ts h)
+          ((complete arg g.0 (ArgsFrame n NoArgs ∷ K) (stop_waits _ (ArgsFrame n NoArgs) K (λ m. refl)) _ (record {
+            follows = more_follows args k;
+            on = λ x J a. more_args n NoArgs arg args g.1 x J {K = K} a k
+                (subst (λ z. Leads k (accepts (Done (CallTree n z)) K)) (sym (all_first arg NoArgs args ∙ ap (AndArg arg) (all_none args))) f);
+          })).by ts h);
+    }
 
     more_args : (n : Ident) (done : ArgTrees) (arg : ExprTree) (args : ArgTrees) → AreGrouped args →
         (x : ExprTree) (J : List ExprFrame) {K : List ExprFrame} → Alike (rank arg) x J arg (ArgsFrame n done ∷ K) → (k : Rest) →

@@ -74,7 +74,7 @@ pub word_taken : (t : Token) (w : Word) → t.kind ≡ WordKind w → (ws : List
     Leads (words ws (after t rest)) (words (scalar_words s) rest)
 word_taken t w e ws s made rest =
     subst (λ us. Leads (words ws (after t rest)) (words us rest)) (sym made)
-        (then (words_mono ws (taken t _ e)) (words_last ws w rest))
+    (then (words_mono ws (taken t _ e)) (words_last ws w rest))
 
 closing : (n : ℕ) (f : ExprFrame) (e : ExprTree) → ends n f ≡ true → (rest : Rest) → Leads (frame_text f (expr_text e rest)) (expr_text (closed_by f e) rest)
 closing n (UnaryFrame op pos) e h rest = same
@@ -131,11 +131,11 @@ module _ (t : Token) (rest : Rest) where
       Leads (frames_text (ArgsFrame n args ∷ K) (expr_text e (after t rest))) (next_text t (close_args kind n args e K) rest)
   args_reads (MarkKind Comma) h n args e K =
       let taking : Leads (frames_text (ArgsFrame n args ∷ K) (expr_text e (after t rest))) (frames_text (ArgsFrame n args ∷ K) (expr_text e (mark Comma rest)))
-          = frames_mono (ArgsFrame n args ∷ K) (expr_mono e (taken t _ h)) in
+      = frames_mono (ArgsFrame n args ∷ K) (expr_mono e (taken t _ h)) in
       then taking (frames_mono K (one_mono _ (one_mono _ (args_comma args e rest))))
   args_reads (MarkKind CloseParen) h n args e K =
       let taking : Leads (frames_text (ArgsFrame n args ∷ K) (expr_text e (after t rest))) (frames_text (ArgsFrame n args ∷ K) (expr_text e (mark CloseParen rest)))
-          = frames_mono (ArgsFrame n args ∷ K) (expr_mono e (taken t _ h)) in
+      = frames_mono (ArgsFrame n args ∷ K) (expr_mono e (taken t _ h)) in
       then taking (frames_mono K (one_mono _ (one_mono _ (args_last args e (mark CloseParen rest)))))
   args_reads _ h n args e K = any
 

@@ -10,3 +10,4 @@ pub mod DeclareComplete
 pub mod StmtComplete
 pub mod BodyComplete
 pub mod UnitComplete
+pub mod RunSteps

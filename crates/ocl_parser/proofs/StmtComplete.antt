@@ -257,9 +257,11 @@ module _ (accepts : StmtFocus → List StmtFrame → Rest) (T : TakesStmts accep
       (target : TargetTree) (op : AssignOp) (value : Option ExprTree) (pos : Pos) → IsOrderly (AssignTree target op value pos) →
       (k : Rest) → Leads k Closers → Leads k (accepts (Assigned part (AssignTree target op value pos)) K) →
       Leads (assign_text target op value pos k) (accepts focus K)
-  assign_from part focus K s target op value pos g k c f = record { by = λ ts h.
-      start_in is_assign_first focus (AssignNext part) K s ts (first_of_assign ts (assign_starts target op value pos k ts h))
-      ((assign_complete accepts T part target op value pos g.0 g.1 K k c f).by ts h) }
+  assign_from part focus K s target op value pos g k c f = record {
+    by = λ ts h.
+        start_in is_assign_first focus (AssignNext part) K s ts (first_of_assign ts (assign_starts target op value pos k ts h))
+        ((assign_complete accepts T part target op value pos g.0 g.1 K k c f).by ts h);
+  }
 
   -- the arguments of a call that is a statement
   more_call : (n : Ident) (done : ArgTrees) (arg : ExprTree) (args : ArgTrees) → IsGrouped arg → AreGrouped args → (K : List StmtFrame) (k : Rest) →

@@ -42,7 +42,7 @@ append_none : {A : Type 0} (xs : List A) → xs ++ [] ≡ xs
 append_none [] = refl
 append_none (x ∷ xs) = ap (λ z. x ∷ z) (append_none xs)
 
-some_inj : {A : Type 0} {x y : A} → Some x ≡ Some y → x ≡ y
+pub some_inj : {A : Type 0} {x y : A} → Some x ≡ Some y → x ≡ y
 some_inj e = cc
 
 abbrev follow : UnitNext → List FunctionTree → List Token → Option (List FunctionTree)
@@ -228,8 +228,10 @@ module _ (functions : List FunctionTree) (R : Option (List FunctionTree)) where
   body_complete head params body g k f =
       unit_one (MarkKind OpenBrace) (ParamsClosed head params) (Inside head params ItemStart (BlockFrame NoStmts ∷ [])) (λ p. refl)
       (read_items (λ focus K. Gives_R (Inside head params focus K)) (in_body head params) body g NoStmts [] k
-      (record { by = close_in head params (all_stmts NoStmts body) k
-          (subst (λ z. Leads k (λ ts. run Outside (functions ++ (made head params z ∷ [])) ts ≡ R)) (sym (all_stmts_none body)) f) }))
+      (record {
+        by = close_in head params (all_stmts NoStmts body) k
+            (subst (λ z. Leads k (λ ts. run Outside (functions ++ (made head params z ∷ [])) ts ≡ R)) (sym (all_stmts_none body)) f);
+      }))
 
   -- a parameter
   plain_param : (p : Param) (kind : ParamKind) (c : Bool) (done : List Param) → p.kind ≡ kind → p.constant ≡ c →
@@ -290,8 +292,10 @@ module _ (functions : List FunctionTree) (R : Option (List FunctionTree)) where
       (space : Option Space) (c : Bool) (ts : List Token) → scalar elem (qualifiers c (λ constant. param_end_text p space elem constant k)) ts → Gives_R (ParamWords head done space c) ts
   scalar_in head done p elem k f space c ts h =
       let behind : Leads (qualifiers c (λ constant. param_end_text p space elem constant k)) (Gives_R (ParamScalar head done space c h.0)) =
-          record { by = λ us x. behind_words head done space c h.0 us (tails p space elem k c us x)
-              (subst (λ z. Gives_R (ParamType head done space c z) us) (sym h.1) (type_in head done p space elem k f c us x)) } in
+      record {
+        by = λ us x. behind_words head done space c h.0 us (tails p space elem k c us x)
+            (subst (λ z. Gives_R (ParamType head done space c z) us) (sym h.1) (type_in head done p space elem k f c us x));
+      } in
       (scalar_complete (param_words head done space c) _ h.0 behind).by ts h.2
 
   space_in : (head : Head) (done : List Param) (space : Option Space) (c : Bool) → space ≡ None → (s : Space) (t : Token) → IsSpaceWord s t →
@@ -384,10 +388,12 @@ module _ (functions : List FunctionTree) (R : Option (List FunctionTree)) where
 
   head_complete : (kernel : Bool) (gives : Gives) (n : Ident) (k : Rest) → Leads k (Gives_R (HeadNamed (headed kernel gives n))) →
       Leads (head_text kernel gives (name n k)) (Gives_R Outside)
-  head_complete true gives n k f = record { by = λ ts h.
-      kernel_in _ (unit_one (WordKind Void) KernelRead (HeadRead true Nothing) (λ p. refl)
-      (unit_name n (HeadRead true Nothing) (HeadNamed (headed true Nothing n)) refl
-      (subst (λ z. Leads k (Gives_R (HeadNamed (headed true z n)))) h.0 f))) ts h.1 }
+  head_complete true gives n k f = record {
+    by = λ ts h.
+        kernel_in _ (unit_one (WordKind Void) KernelRead (HeadRead true Nothing) (λ p. refl)
+        (unit_name n (HeadRead true Nothing) (HeadNamed (headed true Nothing n)) refl
+        (subst (λ z. Leads k (Gives_R (HeadNamed (headed true z n)))) h.0 f))) ts h.1;
+  }
   head_complete false gives n k f = record { by = λ ts h. outside_in ts (helper_starts gives _ ts h) (helper_in gives n k f ts h) }
 
   function_complete : (f : FunctionTree) → AreOrderly f.body → (k : Rest) → Leads k (λ ts. run Outside (functions ++ (f ∷ [])) ts ≡ R) →
@@ -404,8 +410,10 @@ end_read functions (t ∷ ts) h = ap (λ z. follow (outside_step z) functions ts
 units_read : (fs functions : List FunctionTree) → AreOrderlyFunctions fs → (ts : List Token) → unit_text fs ts → run Outside functions ts ≡ Some (functions ++ fs)
 units_read [] functions g ts h = subst (λ z. run Outside functions ts ≡ Some z) (sym (append_none functions)) (end_read functions ts h)
 units_read (f ∷ fs) functions g ts h =
-    (function_complete functions (Some (functions ++ (f ∷ fs))) f g.0 (unit_text fs) (record { by = λ us x.
-      subst (λ z. run Outside (functions ++ (f ∷ [])) us ≡ Some z) (append_assoc functions (f ∷ []) fs) (units_read fs (functions ++ (f ∷ [])) g.1 us x) })).by ts h
+    (function_complete functions (Some (functions ++ (f ∷ fs))) f g.0 (unit_text fs) (record {
+      by = λ us x.
+          subst (λ z. run Outside (functions ++ (f ∷ [])) us ≡ Some z) (append_assoc functions (f ∷ []) fs) (units_read fs (functions ++ (f ∷ [])) g.1 us x);
+    })).by ts h
 
 -- Whatever tokens are a text of some functions, the reader reads these.
 pub unit_complete : (tokens : List Token) (fs : List FunctionTree) → Derives tokens fs → run Outside [] tokens ≡ Some fs

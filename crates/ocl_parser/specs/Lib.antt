@@ -9,3 +9,4 @@ pub mod StmtSteps
 pub mod UnitSteps
 pub mod Moves
 pub mod Runs
+pub mod Faults

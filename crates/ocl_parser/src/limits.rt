@@ -17,11 +17,11 @@ pub fn is_within(focus: &UnitFocus) -> bool {
 
 /// Whether a statement has no level too many: a simple statement has 1, and one that waits for another 1 more.
 fn has_levels(focus: &StmtFocus, frames: &StmtFrames) -> bool {
-    let needed = match focus {
-        StmtFocus::IfWord | StmtFocus::WhileWord | StmtFocus::ForWord => 2,
-        _ => 1,
-    };
-    frames.levels() <= MOST_LEVELS - needed
+    let levels = frames.levels();
+    match focus {
+        StmtFocus::IfWord | StmtFocus::WhileWord | StmtFocus::ForWord => levels < MOST_LEVELS - 1,
+        _ => levels < MOST_LEVELS,
+    }
 }
 
 /// Whether an expression that is read is not too high.
@@ -44,7 +44,10 @@ fn is_low_in(focus: &ExprFocus, frames: &ExprFrames) -> bool {
         ExprFocus::Done(tree) => tree.height() as usize,
     };
     let most = left.max(inner);
-    most <= MOST_HEIGHT && frames.len() <= MOST_HEIGHT - most
+    if most > MOST_HEIGHT {
+        return false;
+    }
+    frames.len() <= MOST_HEIGHT - most
 }
 
 /// The greatest height of the finished parts of a frame.

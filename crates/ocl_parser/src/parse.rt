@@ -1,6 +1,10 @@
-ghost use Rattle.std.specs.Prelude.{◌≡◌, [], Some, IfOk};
-ghost use Rattle.ocl_ast.specs.Shapes.{unit_trees};
-ghost use Rattle.ocl_parser.specs.Runs.{run};
+ghost use Rattle.std.specs.Prelude.{◌≡◌, [], ◌∷◌, List, Some, None, map, if◌then◌else◌, IfOk, IfErr};
+ghost use Rattle.ocl_ast.specs.Shapes.{function_tree, unit_trees};
+ghost use Rattle.ocl_ast.specs.Trees.{FunctionTree};
+ghost use Rattle.ocl_tokens.specs.declared.tokens.Token.{Token};
+ghost use Rattle.ocl_parser.specs.Faults.{IsNone, IsNoText};
+ghost use Rattle.ocl_parser.specs.Runs.{run, ended};
+ghost use Rattle.ocl_parser.specs.Units.{Derives};
 
 use crate::limits::is_within;
 use crate::moves::UnitMove;
@@ -8,8 +12,8 @@ use crate::states::UnitFocus;
 use crate::unit_steps::unit_step;
 use ocl_ast::{FunctionList, Unit};
 use ocl_tokens::{Token, TokenKind, Tokens, Word};
-use std::alloc::{AllocError, Global};
-use vx_base::{Memory, Pos};
+use std::alloc::Global;
+use vx_base::Pos;
 
 /// Why tokens are refused, with the place of the first token behind which no file within the limits goes on.
 #[derive(Clone, Copy, Debug, PartialEq, Eq)]
@@ -24,42 +28,82 @@ pub enum ParseFault {
     Memory,
 }
 
-/// The trees of a file's tokens, of which the last and no other is the end.
+/// The functions of a file's tokens, of which the last and no other is the end.
+#[tactic(auto, using(crate::proofs::RunSteps::read_is, crate::proofs::RunSteps::none_is))]
 pub fn parse(alloc: Global, tokens: &Tokens) -> Result<Unit, ParseFault>
-    ensures { IfOk result (λ unit. run UnitFocus.Outside [] tokens.now ≡ Some (unit_trees unit)) }
+    ensures read { IfOk result (λ unit. (fs : List FunctionTree) → Derives tokens.now fs → unit_trees unit ≡ fs) }
+    ensures refused { IfErr result (λ fault. IsNoText fault tokens.now) }
+{
+    let functions = read_all(alloc, tokens.as_slice())?;
+    Ok(Unit { functions })
+}
+
+/// The functions that the reader makes of the tokens.
+fn read_all(alloc: Global, tokens: &[Token]) -> Result<FunctionList, ParseFault>
+    ensures functions { IfOk result (λ functions. run UnitFocus.Outside [] tokens.now ≡ Some (map function_tree functions)) }
+    ensures refused { IfErr result (λ fault. IsNone fault (run UnitFocus.Outside [] tokens.now)) }
 {
     let mut functions = FunctionList {
         items: Vec::new(alloc),
     };
     let mut focus = UnitFocus::Outside;
     let mut last = Pos { line: 1, col: 1 };
-    for token in tokens.as_slice() {
+    for token in tokens {
         last = token.pos;
-        match unit_step(alloc, &token.kind, token.pos, focus) {
-            Err(Memory) => return Err(ParseFault::Memory),
-            Ok(UnitMove::Refused) => return Err(refusal(token)),
-            Ok(UnitMove::Added(function)) => {
-                if functions.items.push(function).is_err() {
-                    return Err(ParseFault::Memory);
-                }
-                focus = UnitFocus::Outside;
-            }
-            Ok(UnitMove::On(next)) => {
-                if !is_within(&next) {
-                    return Err(ParseFault::TooDeep(token.pos));
-                }
-                focus = next;
-            }
+        match read_token(alloc, token, focus, &mut functions) {
+            Ok(next) => focus = next,
+            Err(fault) => return Err(fault),
         }
     }
+    if is_ended(&focus) {
+        Ok(functions)
+    } else {
+        Err(ParseFault::Unexpected(last))
+    }
+}
+
+/// Whether the whole file has been read.
+fn is_ended(focus: &UnitFocus) -> bool
+    ensures { (fs : List FunctionTree) → ended focus.now fs ≡ (if result then Some fs else None) }
+{
     match focus {
-        UnitFocus::AtEnd => Ok(Unit { functions }),
-        _ => Err(ParseFault::Unexpected(last)),
+        UnitFocus::AtEnd => true,
+        _ => false,
+    }
+}
+
+/// Reads a token, which may end a function.
+#[tactic(auto, using(crate::proofs::RunSteps::reads_on, crate::proofs::RunSteps::adds_on, crate::proofs::RunSteps::fails_on))]
+fn read_token(
+    alloc: Global,
+    token: &Token,
+    focus: UnitFocus,
+    functions: &mut FunctionList,
+) -> Result<UnitFocus, ParseFault>
+    ensures goes { IfOk result (λ next. (ts : List Token) → run focus (map function_tree functions.old) (token.now ∷ ts) ≡ run next (map function_tree functions.new) ts) }
+    ensures stops { IfErr result (λ fault. (ts : List Token) → IsNone fault (run focus (map function_tree functions.old) (token.now ∷ ts))) }
+{
+    match unit_step(alloc, &token.kind, token.pos, focus) {
+        Err(_memory) => Err(ParseFault::Memory),
+        Ok(UnitMove::Refused) => Err(refusal(token)),
+        Ok(UnitMove::Added(function)) => match functions.items.push(function) {
+            Ok(()) => Ok(UnitFocus::Outside),
+            Err(_refused) => Err(ParseFault::Memory),
+        },
+        Ok(UnitMove::On(next)) => {
+            if is_within(&next) {
+                Ok(next)
+            } else {
+                Err(ParseFault::TooDeep(token.pos))
+            }
+        }
     }
 }
 
 /// Why a token is refused with which no file goes on.
-fn refusal(token: &Token) -> ParseFault {
+fn refusal(token: &Token) -> ParseFault
+    ensures { IsNone result None }
+{
     match token.kind {
         TokenKind::Word(Word::LeftOut(_)) => ParseFault::Subset(token.pos),
         _ => ParseFault::Unexpected(token.pos),

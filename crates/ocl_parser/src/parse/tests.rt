@@ -265,11 +265,11 @@ fn limits(rt: HostRuntime) -> Result<(), Fail> {
         let body = body_of(alloc, inner.as_str())?;
         let fault = fault_of(alloc, body.as_str())?;
         assert!(rt; !matches!(fault, Some(ParseFault::TooDeep(_))), "{before}");
-        let deeper = repeated(alloc, before, most + 1, after)?;
+        let deeper = repeated(alloc, before, most.saturating_add(1), after)?;
         let body = body_of(alloc, deeper.as_str())?;
         let pos = Pos {
             line: 1,
-            col: col + 1,
+            col: col.saturating_add(1),
         };
         assert_eq!(rt;
             fault_of(alloc, body.as_str())?,
@@ -292,7 +292,7 @@ fn limits(rt: HostRuntime) -> Result<(), Fail> {
             !matches!(fault, Some(ParseFault::TooDeep(_))),
             "{before} {fault:?} {late}"
         );
-        let deeper = repeated(alloc, before, most + 1, after)?;
+        let deeper = repeated(alloc, before, most.saturating_add(1), after)?;
         let text = format!(in alloc; "a = {deeper}")?;
         let body = body_of(alloc, text.as_str())?;
         let fault = fault_of(alloc, body.as_str())?;
