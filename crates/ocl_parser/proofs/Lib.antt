@@ -11,3 +11,4 @@ pub mod StmtComplete
 pub mod BodyComplete
 pub mod UnitComplete
 pub mod RunSteps
+pub mod StmtTexts
