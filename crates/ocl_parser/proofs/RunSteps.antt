@@ -9,8 +9,8 @@ use Rattle.ocl_parser.specs.Faults.{IsNoText, IsNone}
 use Rattle.ocl_parser.specs.Runs.{go_on, run}
 use Rattle.ocl_parser.specs.Units.{Derives}
 use Rattle.ocl_parser.specs.UnitSteps.{UnitNext, Reads, Adds, Fails, unit_step}
-use Rattle.ocl_parser.specs.declared.parse.ParseFault.{ParseFault}
-use Rattle.ocl_parser.specs.declared.parse.ParseFault.TheVariants.{Unexpected, Subset, TooDeep, Memory}
+use Rattle.ocl_parser.specs.declared.parsing.ParseFault.{ParseFault}
+use Rattle.ocl_parser.specs.declared.parsing.ParseFault.TheVariants.{Unexpected, Subset, TooDeep, Memory}
 use Rattle.ocl_parser.specs.declared.states.UnitFocus.{UnitFocus}
 use Rattle.ocl_parser.specs.declared.states.UnitFocus.TheVariants.{Outside}
 use Rattle.ocl_parser.proofs.UnitComplete.{some_inj, unit_complete}

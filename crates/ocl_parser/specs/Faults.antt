@@ -3,8 +3,8 @@ use Rattle.std.specs.Prelude.{◌≡◌, List, [], Option, None}
 use Rattle.ocl_ast.specs.Trees.{FunctionTree}
 use Rattle.ocl_tokens.specs.declared.tokens.Token.{Token}
 use Rattle.ocl_parser.specs.Units.{Derives}
-use Rattle.ocl_parser.specs.declared.parse.ParseFault.{ParseFault}
-use Rattle.ocl_parser.specs.declared.parse.ParseFault.TheVariants.{Unexpected, Subset, TooDeep, Memory}
+use Rattle.ocl_parser.specs.declared.parsing.ParseFault.{ParseFault}
+use Rattle.ocl_parser.specs.declared.parsing.ParseFault.TheVariants.{Unexpected, Subset, TooDeep, Memory}
 
 -- The tokens are a text of no file, where the fault is no limit and no want of memory.
 abbrev pub IsNoText : ParseFault → List Token → Type 0

@@ -27,7 +27,7 @@ pub mod moves;
 pub mod names;
 pub mod operators;
 pub mod params;
-pub mod parse;
+pub mod parsing;
 pub mod scalars;
 pub mod stacks;
 pub mod states;
@@ -35,4 +35,4 @@ pub mod stmt_steps;
 pub mod trees;
 pub mod unit_steps;
 
-pub use parse::{ParseFault, parse};
+pub use parsing::{ParseFault, parse};
