@@ -1,1 +1,2 @@
 pub mod CoreMemory
+pub mod CoreSteps

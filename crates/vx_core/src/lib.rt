@@ -8,7 +8,7 @@
 //! - `counts`: what a core counts.
 //! - `memory`: what the lanes of a core read and write: the scratchpad, and the bus through the cache.
 //! - `crew`: the warps of a core, by number.
-//! - `core`: the core.
+//! - `core_run`: the core, and how it runs a group.
 #![tactic(auto)]
 
 pub mod core_run;
