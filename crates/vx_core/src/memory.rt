@@ -14,6 +14,7 @@ const SCRATCH_START: u32 = 0x1000_0000;
 const GLOBAL_START: u32 = 0x4000_0000;
 
 /// What the lanes of a core read and write: its scratchpad, and the words of the bus through its cache.
+#[derive(Drop)]
 pub struct CoreMemory<'a, B: Bus, E: Evictor> {
     /// The scratchpad.
     pub scratch: &'a mut Scratch,
