@@ -1,5 +1,5 @@
 -- Laws of the order in which warps were picked.
-use Rattle.std.proofs.Common.{◌≡◌, ◌≢◌, ℕ, zero, suc, ◌+◌, ◌-◌, ◌^◌, ◌<◌, ◌≤◌, Bool, true, false, true≢false, not, cond, nat_eq, nat_lt, List, [], ◌∷◌, ◌++◌, length, get_or, Some, None, Contains, inl, inr, refl, ap, subst, sym, ◌∙◌, arith}
+use Rattle.std.proofs.Common.{◌≡◌, ◌≢◌, ℕ, zero, suc, ◌+◌, ◌-◌, ◌^◌, ◌<◌, ◌≤◌, Bool, true, false, true≢false, not, cond, nat_eq, nat_lt, List, [], ◌∷◌, ◌++◌, length, get_or, Some, None, Contains, inl, inr, ap, sym, ◌∙◌, arith}
 use Rattle.std.specs.Prelude.{position, remove}
 use Rattle.std.specs.Int.{bit_at, w32, trailing_zeros}
 use Rattle.std.specs.List.{position_or_len}

@@ -1,12 +1,11 @@
 -- Laws of picks.
-use Rattle.std.proofs.Common.{◌≡◌, ◌≢◌, ℕ, ◌+◌, ◌-◌, ◌*◌, ◌/◌, ◌%◌, ◌^◌, ◌<◌, ◌≤◌, inl, inr, ap, subst, sym, ◌∙◌, arith}
+use Rattle.std.proofs.Common.{◌≡◌, ℕ, ◌+◌, ◌-◌, ◌/◌, ◌%◌, ◌^◌, ◌≤◌, ap, subst, sym, ◌∙◌, arith}
 use Rattle.std.specs.Int.{IsBitSet, bit_at}
-use Rattle.std.proofs.lemmas.Bool.{cases_lt}
-use Rattle.std.proofs.lemmas.Nat.{pow-add, pow_pos}
+use Rattle.std.proofs.lemmas.Nat.{pow-add}
 use Rattle.std.proofs.Math.Nat.{div-div-eq-div-mul}
 use Rattle.vx_base.specs.Masks.{IsLeastBit}
-use Rattle.vx_base.proofs.MaskLaws.{bit_of_set, set_of_bit, unset_of_bit, bit_of_unset, no_bit}
-use Rattle.warp_scheduler.specs.Rules.{IsLeastFrom, PicksInTurn, Above, Around}
+use Rattle.vx_base.proofs.MaskLaws.{bit_of_set, set_of_bit, no_bit}
+use Rattle.warp_scheduler.specs.Rules.{PicksInTurn, Above, Around}
 
 -- bit k behind a shift to the right
 shifted_bit : (n from k : ℕ) → bit_at (n / 2 ^ from) k ≡ bit_at n (from + k)
