@@ -1,5 +1,5 @@
 -- Small kernels, run by hand: each row is what an item asks for after some answers.
-use Rattle.std.proofs.Common.{◌≡◌, refl, ℕ, Bool, true, false, List, [], ◌∷◌, Option, None, Some}
+use Rattle.std.proofs.Common.{◌≡◌, refl, ℕ, ◌*◌, Bool, true, false, List, [], ◌∷◌, Option, None, Some}
 use Rattle.std.specs.Prelude.{codes}
 use Rattle.vx_base.specs.declared.types.Elem.{Elem}
 use Rattle.vx_base.specs.declared.types.Elem.TheVariants.{Char, Uchar, Short, Int, Uint}
@@ -102,9 +102,9 @@ abbrev value_of : ExprNode → ℕ → Asked
 value_of value fuel = asks [] [] (first_is value ∷ []) 0 [] fuel
 
 abbrev stores : ℕ → ℕ → Asked
-stores element value = Act (Store (Global 0 element) Four value)
+stores element value = Act (Store (Global 0 (4 * element)) Four value)
 
--- `a[0] = 9 - 3 - 2;` stores 4, with seven steps before it, and then the item ends
+-- `a[0] = 9 - 3 - 2;` stores 4, with six steps before it, and then the item ends
 difference : value_of (BinaryNode Sub false (BinaryNode Sub false (number 9) (number 3)) (number 2)) 6 ≡ stores 0 4
 difference = refl
 
@@ -118,7 +118,7 @@ difference_ends = refl
 own_element : asks [] [] (sets own_id (number 1) 7 ∷ []) 3 [] 8 ≡ Act (Store (Global 0 12) Four 1)
 own_element = refl
 
--- ---- operators (04 has division by 0 as RISC-V's)
+-- ---- operators; division by 0 is RISC-V's
 
 seven_by_zero : value_of (BinaryNode Div false (number 7) (number 0)) 8 ≡ stores 0 4294967295
 seven_by_zero = refl
