@@ -1,0 +1,1 @@
+-- A run of a group, step by step.
