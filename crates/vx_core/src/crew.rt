@@ -194,6 +194,14 @@ fn running_in(warps: &[Warp]) -> u32
     set
 }
 
+// Whether a `wspawn` with a count starts a warp.
+fn is_spawned(warps: &[Warp], count: u32, warp: u32) -> bool
+    requires { warp < length warps.now }
+    ensures { result ≡ is_spawned count (warps_of warps.now) warp }
+{
+    0 < warp && warp < count && !is_running(warps, warp)
+}
+
 // The warps that a `wspawn` with a count starts, as bits.
 fn spawned_in(warps: &[Warp], count: u32) -> u32
     requires { length warps.now ≡ 16 }
@@ -201,7 +209,7 @@ fn spawned_in(warps: &[Warp], count: u32) -> u32
 {
     let mut set = 0;
     for warp in 0..WARPS {
-        if 0 < warp && warp < count && !is_running(warps, warp) {
+        if is_spawned(warps, count, warp) {
             set |= 1 << warp;
         }
     }

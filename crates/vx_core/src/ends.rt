@@ -10,6 +10,7 @@ use vx_base::Pos;
 use vx_isa::{MachineTrap, Site, SiteList, Step};
 
 /// How the group ends behind an instruction of a warp, the number of instructions aside.
+#[tactic(auto, using(crate::proofs::ItemLaws::lanes_below_warp))]
 pub fn end_after(
     crew: &Crew,
     sites: &SiteList,

@@ -49,6 +49,7 @@ fn write_steps(size: Size) -> u64
 
 impl<B: Bus, E: Evictor> CoreMemory<'_, B, E> {
     // The number in a field of the bus's words.
+    #[tactic(auto, using(crate::proofs::LoanLaws::line_inside))]
     fn read_words(&mut self, offset: u32, size: Size) -> u32
         requires sound { B.is_sound self.old.bus.now }
         requires lines { B.count self.old.bus.now % 16 ≡ 0 }
@@ -64,6 +65,7 @@ impl<B: Bus, E: Evictor> CoreMemory<'_, B, E> {
     }
 
     // Writes the low bytes of a value to a field of the bus's words.
+    #[tactic(auto, using(crate::proofs::LoanLaws::line_inside))]
     fn write_words(&mut self, offset: u32, size: Size, value: u32)
         requires sound { B.is_sound self.old.bus.now }
         requires lines { B.count self.old.bus.now % 16 ≡ 0 }
