@@ -1,5 +1,5 @@
 -- Sets of warps.
-use Rattle.std.proofs.Common.{◌≡◌, ◌≢◌, ℕ, zero, suc, ◌*◌, ◌^◌, ◌<◌, ◌≤◌, Bool, true, false, not, nat_eq, if◌then◌else◌, inl, inr, absurd, ap, sym, ◌∙◌, arith, refl, eq-eqb}
+use Rattle.std.proofs.Common.{◌≡◌, ◌≢◌, ℕ, zero, suc, ◌*◌, ◌^◌, ◌<◌, ◌≤◌, Bool, true, false, not, nat_eq, if◌then◌else◌, inl, inr, ap, sym, ◌∙◌, arith, refl, eq-eqb}
 use Rattle.std.specs.Prelude.{bit_and, min}
 use Rattle.std.specs.Int.{IsBitSet, bit_at, bit_not, w32}
 use Rattle.std.proofs.lemmas.Nat.Bits.{and_pow, bit_at-lt, bit_at_and, bit_at_above}
@@ -24,7 +24,7 @@ has_lane-set n k some = has_lane-one n k (bit_at-set n k some)
 pub has_lane-past : (set k : ℕ) → set < 2 ^ 16 → 16 ≤ k → has_lane set k ≡ false
 has_lane-past set k below past = has_lane-zero set k (bit_at_above set 16 k below past)
 
-one_then : (b : Bool) → (if b then 1 else 0) ≡ 1 → b ≡ true
+one_then : (b : Bool) → ◌≡◌ {A = ℕ} (if b then 1 else 0) 1 → b ≡ true
 one_then true same = refl
 one_then false same = let none : ⊥ = omega arith in absurd none
 

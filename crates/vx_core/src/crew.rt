@@ -39,7 +39,7 @@ impl Crew {
     /// Warps of which none was started.
     pub fn new(alloc: Global) -> Result<Crew, Memory> {
         let mut warps = Vec::with_capacity(alloc, WARPS as usize)?;
-        for _number in 0..WARPS {
+        for number in 0..WARPS {
             warps.push_reserved(Warp::new());
         }
         Ok(Crew {
