@@ -1,5 +1,5 @@
 -- A launch block at the head of a scratchpad, word by word.
-use Rattle.std.proofs.Common.{◌≡◌, ℕ, suc, ◌+◌, ◌*◌, ◌<◌, ◌≤◌, List, [], ◌∷◌, ◌++◌, length, get_or, take, drop, ap, sym, ◌∙◌, subst, arith, refl, append_assoc}
+use Rattle.std.proofs.Common.{◌≡◌, ℕ, suc, ◌+◌, ◌*◌, ◌<◌, ◌≤◌, List, [], ◌∷◌, ◌++◌, length, get_or, take, drop, ap, sym, ◌∙◌, subst, arith, refl}
 use Rattle.std.specs.List.{flat_map}
 use Rattle.std.proofs.lemmas.Grind.{flat_map-append}
 use Rattle.std.proofs.lemmas.List.{length-take-le, take_more}
@@ -15,13 +15,14 @@ length-bytes_in : (words : List ℕ) → length (bytes_in words) ≡ 4 * length 
 length-bytes_in [] = refl
 length-bytes_in (word ∷ words) = let rest : length (bytes_in words) ≡ 4 * length words = length-bytes_in words in omega (arith, rest)
 
--- a word behind bytes
+-- bytes behind others, in place of as many
+bytes_behind : (front rest bytes back : List ℕ) → drop 4 rest ≡ back → (take (length front) (front ++ rest) ++ bytes) ++ drop (length front + 4) (front ++ rest) ≡ (front ++ bytes) ++ back
+bytes_behind front rest bytes back same = rw (take-append_seam front rest, drop-append-add front rest 4, same) refl
+
 word_behind : (front old : List ℕ) (at word : ℕ) → length front ≡ at → with_field (front ++ drop at old) at 4 word ≡ (front ++ number_bytes word 4) ++ drop (at + 4) old
 word_behind front old at word same =
-    subst (λ (n : ℕ). with_field (front ++ drop n old) n 4 word ≡ (front ++ number_bytes word 4) ++ drop (n + 4) old) same
-    (ap (λ (l : List ℕ). l ++ number_bytes word 4 ++ drop (length front + 4) (front ++ drop (length front) old)) (take-append_seam front (drop (length front) old))
-    ∙ ap (λ (l : List ℕ). front ++ number_bytes word 4 ++ l) (drop-append-add front (drop (length front) old) 4 ∙ drop-drop 4 (length front) old)
-    ∙ sym (append_assoc front (number_bytes word 4) (drop (length front + 4) old)))
+    subst (λ (n : ℕ). with_field (front ++ drop at old) n 4 word ≡ (front ++ number_bytes word 4) ++ drop (at + 4) old) same
+    (bytes_behind front (drop at old) (number_bytes word 4) (drop (at + 4) old) (drop-drop 4 at old))
 
 -- the block as far as it is written
 abbrev pub block_below : ℕ → List ℕ → List ℕ → List ℕ

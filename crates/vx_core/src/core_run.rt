@@ -143,7 +143,7 @@ impl Core {
         ensures sound { B.is_sound bus.new }
         ensures same_bus { (B.count bus.new ≡ B.count bus.old) × (B.number bus.new ≡ B.number bus.old) }
     {
-        let warp = pick.pick(self.crew.ready());
+        let warp = self.crew.pick(pick);
         let outcome = self.step_warp(image, job, warp, bus, evict);
         self.tally.add(outcome, self.crew.depth(warp));
         self.crew.finish(job.warps, warp, outcome);

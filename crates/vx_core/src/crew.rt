@@ -1,4 +1,4 @@
-ghost use Rattle.std.specs.Prelude.{◌≡◌, ◌≢◌, ◌%◌, ◌^◌, ◌<◌, ◌≤◌, length};
+ghost use Rattle.std.specs.Prelude.{◌≡◌, ◌≢◌, ◌%◌, ◌^◌, ◌<◌, ◌≤◌, length, true};
 ghost use Rattle.vx_isa.specs.Warps.{has_lane, lanes_below, started};
 ghost use Rattle.vx_isa.specs.WarpSteps.{Takes, warp_step};
 ghost use Rattle.vx_core.specs.CoreMemory.{KeepsLoans, reach_of};
@@ -15,6 +15,7 @@ use memory_banks::Bus;
 use std::alloc::Global;
 use vx_base::Memory;
 use vx_isa::{Ids, Step};
+use warp_scheduler::Picker;
 use warp_state::Warp;
 
 /// The address of the first word of an image.
@@ -78,6 +79,17 @@ impl Crew {
         ensures { result ≡ ready (crew_of self.now) }
     {
         self.running() & !self.barriers.waiting()
+    }
+
+    /// A ready warp, by a policy.
+    pub fn pick<P: Picker>(&self, policy: &mut P) -> u32
+        requires { ready (crew_of self.now) ≢ 0 }
+        ensures picks { P.picks policy.old (ready (crew_of self.now)) result policy.new }
+        ensures ready { has_lane (ready (crew_of self.now)) result ≡ true }
+        ensures warp { result < 16 }
+        ensures active { ((crew_of self.now).warps result).mask ≢ 0 }
+    {
+        policy.pick(self.ready())
     }
 
     /// The warps that were started and have ended, as bits.
