@@ -2,6 +2,7 @@
 use Rattle.std.specs.Prelude.{◌≡◌, ℕ, replicate}
 use Rattle.vx_isa.specs.declared.image.Image.{Image}
 use Rattle.l1_cache.specs.Lines.{no_lines}
+use Rattle.vx_core.specs.Blocks.{cleared}
 use Rattle.vx_core.specs.Counting.{no_tally}
 use Rattle.vx_core.specs.Crews.{CrewState}
 use Rattle.vx_core.specs.CoreSteps.{CoreState, Setting}
@@ -24,9 +25,6 @@ number_of core = core.number
 
 abbrev pub banks_of : Core → ℕ
 banks_of core = core.banks
-
-abbrev pub sets_of : Core → ℕ
-sets_of core = core.cache.set_count
 
 abbrev pub tally_of : Core → Tally
 tally_of core = core.tally
@@ -60,12 +58,19 @@ counts_of core = record {
   banks = core.steps;
 }
 
--- the core as a launch finds it: with a number, so many banks and so many sets, a scratchpad of zeros, a cache that keeps no
--- line, and counts of 0
-pub record IsFresh (number banks sets : ℕ) (core : Core) : Type 0 where
+-- a new core: with a number, so many banks and so many sets, a scratchpad of zeros, a cache that keeps no line, and counts of 0
+pub record IsNew (number banks sets : ℕ) (core : Core) : Type 0 where
   pub number_is : core.number ≡ number
   pub banks_are : core.banks ≡ banks
   pub scratch_is : core.scratch ≡ replicate 1048576 0
   pub lines_are : core.cache ≡ no_lines sets
   pub tally_is : core.tally ≡ no_tally
   pub steps_are : core.steps ≡ replicate 16 0
+
+-- a launch begins: all bytes of the scratchpad are 0, the cache keeps no line, and all counts are 0
+pub record BeginsLaunch (old new : Core) : Type 0 where
+  pub same_core : KeepsNumbers old new
+  pub scratch_is : new.scratch ≡ cleared 1048576 old.scratch
+  pub lines_are : new.cache ≡ no_lines old.cache.set_count
+  pub tally_is : new.tally ≡ no_tally
+  pub steps_are : new.steps ≡ replicate 16 0

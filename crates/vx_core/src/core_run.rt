@@ -36,14 +36,14 @@ pub struct Core {
 
 impl Core {
     ghost use Rattle.vx_core.specs.CoreSteps.{RunsGroup, StepsOnce};
-    ghost use Rattle.vx_core.specs.Cores.{IsFresh, KeepsNumbers, banks_of, core_crew, core_reach, core_state, counts_of, number_of, sets_of, setting_of, tally_of};
+    ghost use Rattle.vx_core.specs.Cores.{BeginsLaunch, IsNew, KeepsNumbers, banks_of, core_crew, core_reach, core_state, counts_of, number_of, setting_of, tally_of};
 
     /// The core with a number, a cache of 1 to 64 sets of 1 to 8 ways, and bus steps counted by 1 to 16 banks.
     pub fn new(alloc: Global, core: u32, sets: u32, ways: u32, banks: u32) -> Result<Core, Memory>
         requires sets { (1 ≤ sets) × (sets ≤ 64) }
         requires ways { (1 ≤ ways) × (ways ≤ 8) }
         requires banks { (1 ≤ banks) × (banks ≤ 16) }
-        ensures { IfOk result (IsFresh core banks sets) }
+        ensures { IfOk result (IsNew core banks sets) }
     {
         Ok(Core {
             number: core,
@@ -58,10 +58,10 @@ impl Core {
 
     /// A launch begins: the cache keeps no line, the scratchpad is 0, and all counts are 0.
     pub fn begin_launch(&mut self)
-        ensures { IsFresh (number_of self.old) (banks_of self.old) (sets_of self.old) self.new }
+        ensures { BeginsLaunch self.old self.new }
     {
         self.cache.invalidate();
-        self.scratch.clear_to(BYTES);
+        clear_below(&mut self.scratch, BYTES);
         self.steps = [0; BANKS];
         self.tally = Tally::new();
     }
@@ -118,7 +118,7 @@ impl Core {
         ensures rest { (self.new.cache ≡ self.old.cache) × (self.new.steps ≡ self.old.steps) × (self.new.tally ≡ self.old.tally) }
         ensures same_core { KeepsNumbers self.old self.new }
     {
-        self.scratch.clear_to(job.clear);
+        clear_below(&mut self.scratch, job.clear);
         write_block(&mut self.scratch, &job.block);
         self.crew.begin();
     }
@@ -187,6 +187,15 @@ impl Core {
         };
         self.crew.step(image.words.as_slice(), ids, &mut memory)
     }
+}
+
+// Sets the bytes of a scratchpad below a place to 0.
+#[tactic(auto, unfolding(crate::specs::Blocks::cleared))]
+fn clear_below(scratch: &mut Scratch, end: u32)
+    requires { end ≤ BYTES }
+    ensures { scratch.new ≡ cleared end scratch.old }
+{
+    scratch.clear_to(end);
 }
 
 // Writes a launch block to the head of a scratchpad.
