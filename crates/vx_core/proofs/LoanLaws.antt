@@ -26,10 +26,11 @@ same_terms acts evicts p q a words port banks words' port' banks' words_are port
 pub Makes-reach : {B E : Type 0} (acts : B → BusEntry → B → Type 0) (evicts : E → ℕ → ℕ → ℕ → ℕ → E → Type 0) (count number : B → ℕ) (words port banks : ℕ) (accesses : List LaneAccess) (m n : CoreMemory B E) → count m.bus.now ≡ words → number m.bus.now ≡ port → m.banks ≡ banks → Makes (ActsThrough acts evicts count number) m accesses n → Makes (Reaches acts evicts words port banks) (reach_of m) accesses (reach_of n)
 Makes-reach acts evicts count number words port banks [] m n words_are port_is banks_are same = ap reach_of same
 Makes-reach acts evicts count number words port banks (a ∷ rest) m n words_are port_is banks_are made =
-    let kept = made.1.kept in
-    (reach_of made.0,
-    same_terms acts evicts (reach_of m) (reach_of made.0) a.access (count m.bus.now) (number m.bus.now) m.banks words port banks words_are port_is banks_are made.1.reaches,
-    Makes-reach acts evicts count number words port banks rest made.0 n (kept.words ∙ words_are) (kept.port ∙ port_is) (kept.banks ∙ banks_are) made.2)
+    let kept = made.1.kept in (
+      reach_of made.0,
+      same_terms acts evicts (reach_of m) (reach_of made.0) a.access (count m.bus.now) (number m.bus.now) m.banks words port banks words_are port_is banks_are made.1.reaches,
+      Makes-reach acts evicts count number words port banks rest made.0 n (kept.words ∙ words_are) (kept.port ∙ port_is) (kept.banks ∙ banks_are) made.2,
+    )
 
 -- and keep the loans
 pub KeepsLoans-refl : {B E : Type 0} (count number : B → ℕ) (m n : CoreMemory B E) → n ≡ m → KeepsLoans count number m n

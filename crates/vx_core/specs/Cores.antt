@@ -2,7 +2,7 @@
 use Rattle.std.specs.Prelude.{◌≡◌, ℕ, replicate}
 use Rattle.vx_isa.specs.declared.image.Image.{Image}
 use Rattle.l1_cache.specs.Lines.{no_lines}
-use Rattle.vx_core.specs.Blocks.{cleared}
+use Rattle.vx_core.specs.Blocks.{cleared, zeros}
 use Rattle.vx_core.specs.Counting.{no_tally}
 use Rattle.vx_core.specs.Crews.{CrewState}
 use Rattle.vx_core.specs.CoreSteps.{CoreState, Setting}
@@ -62,7 +62,7 @@ counts_of core = record {
 pub record IsNew (number banks sets : ℕ) (core : Core) : Type 0 where
   pub number_is : core.number ≡ number
   pub banks_are : core.banks ≡ banks
-  pub scratch_is : core.scratch ≡ replicate 1048576 0
+  pub scratch_is : core.scratch ≡ zeros 1048576
   pub lines_are : core.cache ≡ no_lines sets
   pub tally_is : core.tally ≡ no_tally
   pub steps_are : core.steps ≡ replicate 16 0

@@ -26,4 +26,3 @@ counted outcome depth t = record {
   diverged = more t.diverged (diverged_in outcome);
   depth = max t.depth depth;
 }
-

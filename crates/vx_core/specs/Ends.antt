@@ -48,4 +48,3 @@ item_of job warp lane = job.group * job.local + warp * job.lanes + lane
 abbrev pub end_after : List Site → GroupJob → ℕ → Step → CrewState → Option GroupEnd
 end_after sites job warp (step.Trap fault lane pc) s = Some (end_of_trap sites fault warp pc (item_of job warp lane))
 end_after sites job warp outcome s = end_without_trap s
-

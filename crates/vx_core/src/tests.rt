@@ -80,7 +80,10 @@ fn ends_of_one_warp(rt: HostRuntime) -> Result<(), Fail> {
     // tmc x0
     assert_eq!(rt; end_of(alloc, &[0x0000_000b], 1, 1)?, GroupEnd::Finished);
     // j: jal x0, j
-    assert_eq!(rt; end_of(alloc, &[0x0000_006f], 1, 5)?, GroupEnd::Turns { count: 5 });
+    assert_eq!(rt;
+        end_of(alloc, &[0x0000_006f], 1, 5)?,
+        GroupEnd::Turns { count: 5 }
+    );
     // addi x5, x0, 2; bar x0, x5
     assert_eq!(rt;
         end_of(alloc, &[0x0020_0293, 0x0050_400b], 1, 9)?,
@@ -136,9 +139,18 @@ fn two_warps_meet(rt: HostRuntime) -> Result<(), Fail> {
         0x0050_400b,
         0x0000_000b,
     ];
-    assert_eq!(rt; end_by(alloc, &code, 2, 14, &mut RoundRobin::new())?, GroupEnd::Finished);
-    assert_eq!(rt; end_by(alloc, &code, 2, 14, &mut OldestFirst::new())?, GroupEnd::Finished);
-    assert_eq!(rt; end_by(alloc, &code, 2, 14, &mut SeededPick::new(1))?, GroupEnd::Finished);
+    assert_eq!(rt;
+        end_by(alloc, &code, 2, 14, &mut RoundRobin::new())?,
+        GroupEnd::Finished
+    );
+    assert_eq!(rt;
+        end_by(alloc, &code, 2, 14, &mut OldestFirst::new())?,
+        GroupEnd::Finished
+    );
+    assert_eq!(rt;
+        end_by(alloc, &code, 2, 14, &mut SeededPick::new(1))?,
+        GroupEnd::Finished
+    );
     assert_eq!(rt;
         end_by(alloc, &code, 2, 13, &mut RoundRobin::new())?,
         GroupEnd::Turns { count: 13 }
