@@ -1,3 +1,5 @@
+ghost use Rattle.std.specs.Prelude.{◌≡◌, length, IfOk};
+
 use crate::{Core, GroupEnd, GroupJob};
 use l1_cache::EvictOldest;
 use memory_banks::PlainBus;
@@ -36,7 +38,9 @@ fn image_of(alloc: Global, words: &[u32]) -> Result<Image, Fail> {
     })
 }
 
-fn job_of(warps: u32, turns: u64) -> GroupJob {
+fn job_of(warps: u32, turns: u64) -> GroupJob
+    ensures numbers { (result.lanes ≡ 4) × (result.local ≡ 8) × (result.group ≡ 2) × (result.clear ≡ 4096) }
+{
     let mut block = [0; 64];
     block[15] = 4;
     GroupJob {
@@ -50,7 +54,15 @@ fn job_of(warps: u32, turns: u64) -> GroupJob {
     }
 }
 
-// How a group ends by a policy, over 32 words of 0 on two banks.
+// A bus of 32 words of 0.
+fn bus_of(alloc: Global) -> Result<PlainBus, Fail>
+    ensures { IfOk result (λ bus. length bus ≡ 32) }
+{
+    let items = vec![in alloc; 0; 32]?;
+    Ok(PlainBus::new(ListOf { items }))
+}
+
+// How a group ends by a policy, on two banks.
 fn end_by<P: Picker>(
     alloc: Global,
     code: &[u32],
@@ -60,7 +72,7 @@ fn end_by<P: Picker>(
 ) -> Result<GroupEnd, Fail> {
     let mut core = Core::new(alloc, 0, 1, 1, 2)?;
     core.begin_launch();
-    let mut bus = PlainBus::new(words_of(alloc, &[0; 32])?);
+    let mut bus = bus_of(alloc)?;
     Ok(core.run_group(
         &image_of(alloc, code)?,
         &job_of(warps, turns),
@@ -202,7 +214,7 @@ fn counts_and_steps_on_the_bus(rt: HostRuntime) -> Result<(), Fail> {
     ];
     let mut core = Core::new(alloc, 0, 1, 1, 2)?;
     core.begin_launch();
-    let mut bus = PlainBus::new(words_of(alloc, &[0; 32])?);
+    let mut bus = bus_of(alloc)?;
     let end = core.run_group(
         &image_of(alloc, &code)?,
         &job_of(1, 99),
