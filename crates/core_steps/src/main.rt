@@ -4,10 +4,10 @@
 
 use l1_cache::EvictOldest;
 use memory_banks::PlainBus;
-use std::alloc::{AllocError, Global};
+use std::alloc::Global;
 use std::env;
 use std::process::ExitCode;
-use vx_base::ListOf;
+use vx_base::{ListOf, Memory};
 use vx_core::{Core, GroupEnd, GroupJob};
 use vx_isa::Image;
 use warp_scheduler::RoundRobin;
@@ -18,17 +18,17 @@ fn number_at(rt: &HostRuntime, place: usize) -> Option<u32> {
 }
 
 // Warp 0 starts the others; each adds 1 to word 0 for ever.
-fn image_of(alloc: Global, warps: u32) -> Result<Image, AllocError> {
+fn image_of(alloc: Global, warps: u32) -> Result<Image, Memory> {
     let code = [
         warps << 20 | 0x0000_0313, // addi x6, x0, warps
-        0x0000_0397,               // auipc x7, 0
-        0x00c3_8393,               // addi x7, x7, 12
-        0x0073_100b,               // wspawn x6, x7
-        0x4000_02b7,               // lui x5, 0x40000
-        0x0002_a403,               // lw x8, 0(x5)
-        0x0014_0413,               // addi x8, x8, 1
-        0x0082_a023,               // sw x8, 0(x5)
-        0xff5f_f06f,               // jal x0, -12
+        0x0000_0397, // auipc x7, 0
+        0x00c3_8393, // addi x7, x7, 12
+        0x0073_100b, // wspawn x6, x7
+        0x4000_02b7, // lui x5, 0x40000
+        0x0002_a403, // lw x8, 0(x5)
+        0x0014_0413, // addi x8, x8, 1
+        0x0082_a023, // sw x8, 0(x5)
+        0xff5f_f06f, // jal x0, -12
     ];
     Ok(Image {
         words: ListOf {
@@ -48,7 +48,7 @@ fn image_of(alloc: Global, warps: u32) -> Result<Image, AllocError> {
 }
 
 // How a group of so many warps ends that does so many instructions.
-fn run(alloc: Global, warps: u32, turns: u32) -> Result<GroupEnd, AllocError> {
+fn run(alloc: Global, warps: u32, turns: u32) -> Result<GroupEnd, Memory> {
     let mut core = Core::new(alloc, 0, 1, 1, 1)?;
     core.begin_launch();
     let job = GroupJob {
