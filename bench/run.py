@@ -9,6 +9,8 @@
   bench/run.py lanes  millions of lane instructions a second of processor time of one warp with 1, 8 and 32 active lanes in a
                       straight arithmetic loop, to reach 100 with 32; after rt ci or, in crates/lane_steps, rt run has built
                       that program
+  bench/run.py core   thousands of instructions a second of processor time of one core with 1 and 16 warps, in a loop with a load
+                      and a store on words of its own; after rt ci or, in crates/core_steps, rt run has built that program
 
 The peak is never below that of the interpreter that starts the program, about 14 MiB.
 """
@@ -23,9 +25,11 @@ TOP = os.path.dirname(os.path.dirname(os.path.abspath(__file__)))
 PROGRAM = os.path.join(TOP, "crates", "vx", "out", "vx")
 PORT_STEPS = os.path.join(TOP, "crates", "port_steps", "out", "port_steps")
 LANE_STEPS = os.path.join(TOP, "crates", "lane_steps", "out", "lane_steps")
+CORE_STEPS = os.path.join(TOP, "crates", "core_steps", "out", "core_steps")
 FRONT_SPEED = os.path.join(TOP, "crates", "front_speed", "out", "front_speed")
 STEPS = 20_000_000
 WARP_STEPS = 10_000_000
+GROUP_STEPS = 1_000_000
 LIMIT = 1_048_576
 
 
@@ -127,6 +131,17 @@ def lanes():
     return 0
 
 
+def core():
+    """What starting up takes is measured with one instruction, and taken off."""
+    if not os.access(CORE_STEPS, os.X_OK):
+        sys.exit("bench: core_steps is not built: run rt run -- 1 1 in crates/core_steps once")
+    print("%-8s %20s" % ("warps", "instructions, k/s"))
+    for warps in (1, 16):
+        taken = processor_seconds_of(CORE_STEPS, warps, GROUP_STEPS) - processor_seconds_of(CORE_STEPS, warps, 1)
+        print("%-8d %20.1f" % (warps, GROUP_STEPS / taken / 1e3))
+    return 0
+
+
 def front():
     if not os.access(FRONT_SPEED, os.X_OK):
         sys.exit("bench: front_speed is not built: run rt run -- names 1000 in crates/front_speed once")
@@ -145,6 +160,8 @@ def main():
         return ports()
     if sys.argv[1:] == ["lanes"]:
         return lanes()
+    if sys.argv[1:] == ["core"]:
+        return core()
     if sys.argv[1:] == ["front"]:
         return front()
     if not os.access(PROGRAM, os.X_OK):

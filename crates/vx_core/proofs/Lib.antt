@@ -1,0 +1,7 @@
+pub mod BlockLaws
+pub mod ItemLaws
+pub mod LoanLaws
+pub mod OutcomeLaws
+pub mod RunLaws
+pub mod SetLaws
+pub mod WarpLaws

@@ -1,0 +1,55 @@
+-- Sets of warps.
+use Rattle.std.proofs.Common.{◌≡◌, ◌≢◌, ℕ, zero, suc, ◌*◌, ◌^◌, ◌<◌, ◌≤◌, Bool, true, false, not, nat_eq, if◌then◌else◌, inl, inr, ap, sym, ◌∙◌, arith, refl, eq-eqb}
+use Rattle.std.specs.Prelude.{bit_and, min}
+use Rattle.std.specs.Int.{IsBitSet, bit_at, bit_not, w32}
+use Rattle.std.proofs.lemmas.Nat.Bits.{and_pow, bit_at-lt, bit_at_and, bit_at_above}
+use Rattle.std.proofs.lemmas.Bool.{cases_lt, true≢false}
+use Rattle.vx_isa.specs.Warps.{has_lane, lanes_below}
+use Rattle.vx_isa.proofs.MaskLaws.{has_lane-one, has_lane-zero, lanes_below-lt, bit_at-lanes_below}
+use Rattle.vx_core.specs.Crews.{CrewState, is_running, opening, ready, running, waiting}
+
+-- a bit that is set is 1
+set_bit : (b value power : ℕ) → b < 2 → value ≡ b * power → (value ≡ 0 → ⊥) → b ≡ 1
+set_bit zero value power few form some = let none : value ≡ 0 = omega (arith, form) in absurd (some none)
+set_bit (suc zero) value power few form some = refl
+set_bit (suc (suc b)) value power few form some = let none : ⊥ = omega arith in absurd none
+
+pub bit_at-set : (n k : ℕ) → IsBitSet n k → bit_at n k ≡ 1
+bit_at-set n k some = set_bit (bit_at n k) (bit_and n (2 ^ k)) (2 ^ k) (bit_at-lt n k) (and_pow n k) some
+
+pub has_lane-set : (n k : ℕ) → IsBitSet n k → has_lane n k ≡ true
+has_lane-set n k some = has_lane-one n k (bit_at-set n k some)
+
+-- a set of warps below 16 has none from 16 on
+pub has_lane-past : (set k : ℕ) → set < 2 ^ 16 → 16 ≤ k → has_lane set k ≡ false
+has_lane-past set k below past = has_lane-zero set k (bit_at_above set 16 k below past)
+
+one_then : (b : Bool) → ◌≡◌ {A = ℕ} (if b then 1 else 0) 1 → b ≡ true
+one_then true same = refl
+one_then false same = let none : ⊥ = omega arith in absurd none
+
+not_zero : (mask : ℕ) → not (nat_eq mask 0) ≡ true → mask ≡ 0 → ⊥
+not_zero mask holds none = true≢false (sym holds ∙ ap not (eq-eqb mask 0 none))
+
+running_warp : (s : CrewState) (warp : ℕ) → bit_at (running s) warp ≡ 1 → (warp < 16) × ((s.warps warp).mask ≡ 0 → ⊥)
+running_warp s warp one =
+    elim (cases_lt warp 16) [
+      | inl below ↦ (below, not_zero (s.warps warp).mask (one_then (is_running s.warps warp) (sym (bit_at-lanes_below 16 (is_running s.warps) warp below) ∙ one)))
+      | inr past ↦
+          let off : bit_at (running s) warp ≡ 0 = bit_at_above (running s) 16 warp (lanes_below-lt 16 (is_running s.warps)) past in
+          let none : ⊥ = omega (arith, off, one) in
+          absurd none
+    ]
+
+-- a warp that can take a step is one of the sixteen, and has not ended
+pub ready_warp : (s : CrewState) (warp : ℕ) → IsBitSet (ready s) warp → (warp < 16) × ((s.warps warp).mask ≡ 0 → ⊥)
+ready_warp s warp some =
+    let one : bit_at (ready s) warp ≡ 1 = bit_at-set (ready s) warp some in
+    let both : bit_at (ready s) warp ≡ min (bit_at (running s) warp) (bit_at (bit_not w32 (waiting s)) warp) = bit_at_and (running s) (bit_not w32 (waiting s)) warp in
+    let few : bit_at (running s) warp < 2 = bit_at-lt (running s) warp in
+    running_warp s warp (omega (arith, one, both, few))
+
+-- where a group begins, warp 0 can take a step
+pub ready-opening : ready opening ≡ 1
+unfolding lanes_below
+ready-opening = refl

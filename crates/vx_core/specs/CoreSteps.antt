@@ -1,0 +1,72 @@
+-- A core, what a step makes of it, and how a group runs on it. Read `StepsOnce` and `RunsGroup` at the end first.
+use Rattle.std.specs.Prelude.{◌≡◌, ℕ, zero, suc, ◌<◌, true, List, length, Option, Some, None}
+use Rattle.vx_isa.specs.Warps.{WarpState, has_lane}
+use Rattle.vx_isa.specs.WarpSteps.{Takes, warp_step}
+use Rattle.vx_isa.specs.declared.image.Image.{Image}
+use Rattle.vx_isa.specs.declared.warps.Step.{Step}
+use Rattle.memory_banks.specs.declared.entry.BusEntry.{BusEntry}
+use Rattle.vx_core.specs.Blocks.{cleared, with_block}
+use Rattle.vx_core.specs.Counting.{counted}
+use Rattle.vx_core.specs.Crews.{CrewState, done, opening, ready, with_warp}
+use Rattle.vx_core.specs.Ends.{end_after}
+use Rattle.vx_core.specs.Places.{Reach, Reaches, fields}
+use Rattle.vx_core.specs.declared.counts.Tally.{Tally}
+use Rattle.vx_core.specs.declared.end.GroupEnd.{GroupEnd}
+use Rattle.vx_core.specs.declared.end.GroupEnd.TheVariants.{Turns}
+use Rattle.vx_core.specs.declared.job.GroupJob.{GroupJob}
+
+-- a core with its bus and its policies: its warps and barriers, what it has counted of instructions, what its lanes reach, and
+-- the policy by which it picks warps
+pub record CoreState (B E P : Type 0) : Type 0 where
+  pub crew : CrewState
+  pub tally : Tally
+  pub reach : Reach B E
+  pub picker : P
+
+-- what stays the same while a group runs: the number of the core, how many banks it counts, how many words its bus has, under
+-- which number its entries stand, the image, and the job
+pub record Setting : Type 0 where
+  pub core : ℕ
+  pub banks : ℕ
+  pub words : ℕ
+  pub port : ℕ
+  pub image : Image
+  pub job : GroupJob
+
+-- A step of a core: the policy picks a ready warp. It takes an instruction, of which the accesses act on what the lanes reach;
+-- then follows what the instruction does to the barriers and to other warps. It is counted, and may end the group.
+pub record StepsOnce {B E P : Type 0} (acts : B → BusEntry → B → Type 0) (evicts : E → ℕ → ℕ → ℕ → ℕ → E → Type 0) (picks : P → ℕ → ℕ → P → Type 0) (g : Setting) (s : CoreState B E P) (end : Option GroupEnd) (s' : CoreState B E P) : Type 0 where
+  pub warp : ℕ
+  pub is_ready : has_lane (ready s.crew) warp ≡ true
+  pub picked : picks s.picker (ready s.crew) warp s'.picker
+  pub outcome : Step
+  pub moved : WarpState
+  pub took : Takes (Reaches acts evicts g.words g.port g.banks) (λ answers. warp_step (fields g.words) (record { core = g.core; warp = warp; lanes = g.job.lanes }) g.image.words answers (s.crew.warps warp)) s.reach outcome moved s'.reach
+  pub crew_is : s'.crew ≡ done g.job.warps warp outcome (record s.crew { warps = with_warp warp moved s.crew.warps })
+  pub tally_is : s'.tally ≡ counted outcome (length moved.stack) s.tally
+  pub end_is : end ≡ end_after g.image.sites g.job warp outcome s'.crew
+
+-- so many steps, of which none ends the group
+abbrev pub GoesOn : {B E P : Type 0} → (B → BusEntry → B → Type 0) → (E → ℕ → ℕ → ℕ → ℕ → E → Type 0) → (P → ℕ → ℕ → P → Type 0) → Setting → ℕ → CoreState B E P → CoreState B E P → Type 0
+GoesOn acts evicts picks g zero s s' = s' ≡ s
+GoesOn {B} {E} {P} acts evicts picks g (suc n) s s' = (between : CoreState B E P) × GoesOn acts evicts picks g n s between × StepsOnce acts evicts picks g between None s'
+
+-- Steps up to one that ends the group, or as many as it may take
+pub data Runs {B E P : Type 0} (acts : B → BusEntry → B → Type 0) (evicts : E → ℕ → ℕ → ℕ → ℕ → E → Type 0) (picks : P → ℕ → ℕ → P → Type 0) (g : Setting) (s : CoreState B E P) (end : GroupEnd) (s' : CoreState B E P) : Type 0 where
+  Ends : (n : ℕ) (last : CoreState B E P) → n < g.job.turns → GoesOn acts evicts picks g n s last → StepsOnce acts evicts picks g last (Some end) s' → Runs acts evicts picks g s end s'
+  RunsOut : GoesOn acts evicts picks g g.job.turns s s' → end ≡ Turns g.job.turns → Runs acts evicts picks g s end s'
+
+-- the core as a group finds it, with the policy that was begun for it
+abbrev pub opened : {B E P : Type 0} → GroupJob → P → CoreState B E P → CoreState B E P
+opened job picker s = record {
+  crew = opening;
+  tally = s.tally;
+  reach = record s.reach { scratch = with_block job.block (cleared job.clear s.reach.scratch) };
+  picker = picker;
+}
+
+-- A group runs on a core, from the picker's beginning on.
+pub record RunsGroup {B E P : Type 0} (acts : B → BusEntry → B → Type 0) (evicts : E → ℕ → ℕ → ℕ → ℕ → E → Type 0) (begins : P → ℕ → P → Type 0) (picks : P → ℕ → ℕ → P → Type 0) (g : Setting) (s : CoreState B E P) (end : GroupEnd) (s' : CoreState B E P) : Type 0 where
+  pub picker : P
+  pub begun : begins s.picker g.job.group picker
+  pub runs : Runs acts evicts picks g (opened g.job picker s) end s'

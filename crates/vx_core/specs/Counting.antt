@@ -1,0 +1,28 @@
+-- What a core counts of its instructions.
+use Rattle.std.specs.Prelude.{ℕ, max}
+use Rattle.vx_isa.specs.declared.warps.Step.{Step}
+use Rattle.vx_isa.specs.declared.warps.Step.TheVariants as step
+use Rattle.vx_core.specs.Places.{more}
+use Rattle.vx_core.specs.declared.counts.Tally.{Tally}
+
+abbrev pub no_tally : Tally
+no_tally = record { instructions = 0; splits = 0; diverged = 0; depth = 0 }
+
+-- whether an instruction was a `split` that did not trap, and whether it found lanes for both sides
+abbrev pub splits_in : Step → ℕ
+splits_in step.Diverged = 1
+splits_in step.Agreed = 1
+splits_in outcome = 0
+
+abbrev pub diverged_in : Step → ℕ
+diverged_in step.Diverged = 1
+diverged_in outcome = 0
+
+-- an instruction ended so, and left a divergence stack of so many entries
+abbrev pub counted : Step → ℕ → Tally → Tally
+counted outcome depth t = record {
+  instructions = more t.instructions 1;
+  splits = more t.splits (splits_in outcome);
+  diverged = more t.diverged (diverged_in outcome);
+  depth = max t.depth depth;
+}

@@ -1,0 +1,9 @@
+pub mod Blocks
+pub mod CoreMemory
+pub mod CoreSteps
+pub mod Cores
+pub mod Counting
+pub mod Crews
+pub mod Ends
+pub mod Places
+pub mod WarpLists

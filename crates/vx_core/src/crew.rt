@@ -1,0 +1,249 @@
+ghost use Rattle.std.specs.Prelude.{◌≡◌, ◌≢◌, ◌%◌, ◌^◌, ◌<◌, ◌≤◌, length, true};
+ghost use Rattle.vx_isa.specs.Warps.{has_lane, lanes_below, started};
+ghost use Rattle.vx_isa.specs.WarpSteps.{Takes, warp_step};
+ghost use Rattle.vx_core.specs.CoreMemory.{KeepsLoans, reach_of};
+ghost use Rattle.vx_core.specs.Crews.{done, ended, is_running, is_spawned, opening, ready, running, spawned, spawned_set, waiting, with_started, with_warp, without};
+ghost use Rattle.vx_core.specs.Ends.{bar_of, lane_of};
+ghost use Rattle.vx_core.specs.Places.{Reaches, fields};
+ghost use Rattle.vx_core.specs.WarpLists.{warps_of};
+ghost use Rattle.warp_state.specs.Lanes.{state_of};
+
+use crate::memory::CoreMemory;
+use barrier_table::Barriers;
+use l1_cache::Evictor;
+use memory_banks::Bus;
+use std::alloc::Global;
+use vx_base::Memory;
+use vx_isa::{Ids, Step};
+use warp_scheduler::Picker;
+use warp_state::Warp;
+
+/// The address of the first word of an image.
+pub const CODE_START: u32 = 0x8000_0000;
+
+/// The most warps that a core can have.
+pub const WARPS: u32 = 16;
+
+/// The warps of a core, by number, and the barriers at which they wait.
+#[derive(Drop)]
+pub struct Crew {
+    warps: Vec<Warp>,
+    // Those that were started since the group began, as bits.
+    started: u32,
+    barriers: Barriers,
+    ghost sixteen: { length warps.items ≡ 16 },
+}
+
+impl Crew {
+    ghost use Rattle.vx_core.specs.Cores.{crew_of};
+
+    /// Warps of which none was started.
+    pub fn new(alloc: Global) -> Result<Crew, Memory> {
+        let mut warps = Vec::with_capacity(alloc, WARPS as usize)?;
+        for number in 0..WARPS {
+            warps.push_reserved(Warp::new());
+        }
+        Ok(Crew {
+            warps,
+            started: 0,
+            barriers: Barriers::new(),
+        })
+    }
+
+    /// A group begins: warp 0 alone is started, at the first word of the code, and no warp waits.
+    pub fn begin(&mut self)
+        ensures { crew_of self.new ≡ opening }
+    {
+        end_all(&mut self.warps);
+        start_warps(&mut self.warps, 1, CODE_START);
+        self.started = 1;
+        self.barriers.clear();
+    }
+
+    /// The warps that have not ended, as bits.
+    pub fn running(&self) -> u32
+        ensures { result ≡ running (crew_of self.now) }
+    {
+        running_in(&self.warps)
+    }
+
+    /// The warps that wait at barriers, as bits.
+    pub fn waiting(&self) -> u32
+        ensures { result ≡ waiting (crew_of self.now) }
+    {
+        self.barriers.waiting()
+    }
+
+    /// The warps that can take a step, as bits.
+    pub fn ready(&self) -> u32
+        ensures { result ≡ ready (crew_of self.now) }
+    {
+        self.running() & !self.barriers.waiting()
+    }
+
+    /// A ready warp, by a policy.
+    pub fn pick<P: Picker>(&self, policy: &mut P) -> u32
+        requires { ready (crew_of self.now) ≢ 0 }
+        ensures picks { P.picks policy.old (ready (crew_of self.now)) result policy.new }
+        ensures ready { has_lane (ready (crew_of self.now)) result ≡ true }
+        ensures warp { result < 16 }
+        ensures active { ((crew_of self.now).warps result).mask ≢ 0 }
+    {
+        policy.pick(self.ready())
+    }
+
+    /// The warps that were started and have ended, as bits.
+    pub fn ended(&self) -> u32
+        ensures { result ≡ ended (crew_of self.now) }
+    {
+        self.started & !self.running()
+    }
+
+    /// How many entries a warp's divergence stack has.
+    pub fn depth(&self, warp: u32) -> u32
+        requires { warp < 16 }
+        ensures { result ≡ length ((crew_of self.now).warps warp).stack }
+    {
+        self.warps[warp as usize].depth() as u32
+    }
+
+    /// A warp that has not ended takes an instruction of the code.
+    pub fn step<B: Bus, E: Evictor>(
+        &mut self,
+        code: &[u32],
+        ids: Ids,
+        memory: &mut CoreMemory<'_, B, E>,
+    ) -> Step
+        requires warp { ids.warp < 16 }
+        requires active { ((crew_of self.old).warps ids.warp).mask ≢ 0 }
+        requires sound { B.is_sound memory.old.bus.now }
+        requires lines { B.count memory.old.bus.now % 16 ≡ 0 }
+        requires banks { (1 ≤ memory.old.banks) × (memory.old.banks ≤ 16) }
+        ensures took { Takes (Reaches B.acts E.evicts (B.count memory.old.bus.now) (B.number memory.old.bus.now) memory.old.banks) (λ answers. warp_step (fields (B.count memory.old.bus.now)) ids code.now answers ((crew_of self.old).warps ids.warp)) (reach_of memory.old) result ((crew_of self.new).warps ids.warp) (reach_of memory.new) }
+        ensures crew { crew_of self.new ≡ record (crew_of self.old) { warps = with_warp ids.warp ((crew_of self.new).warps ids.warp) (crew_of self.old).warps } }
+        ensures lane { lane_of result ≤ 32 }
+        ensures bar { bar_of result < 16 }
+        ensures kept { KeepsLoans B.count B.number memory.old memory.new }
+        ensures sound { B.is_sound memory.new.bus.now }
+    {
+        step_on(&mut self.warps[ids.warp as usize], code, ids, memory)
+    }
+
+    /// What the end of an instruction makes of the barriers and of the other warps, on a core of so many warps.
+    pub fn finish(&mut self, most: u32, warp: u32, outcome: Step)
+        requires warp { warp < 16 }
+        requires barrier { bar_of outcome < 16 }
+        ensures { crew_of self.new ≡ done most warp outcome (crew_of self.old) }
+    {
+        match outcome {
+            Step::Wait { bar, count } => {
+                let _ = self.barriers.arrive(bar, warp, count);
+            }
+            Step::Spawn { count, pc } => self.spawn(count.min(most), pc),
+            _ => {}
+        }
+    }
+
+    // The warps from 1 to `count` - 1 that have ended or were not started begin at an address with lane 0 alone.
+    fn spawn(&mut self, count: u32, pc: u32)
+        ensures { crew_of self.new ≡ spawned count pc (crew_of self.old) }
+    {
+        let set = spawned_in(&self.warps, count);
+        start_warps(&mut self.warps, set, pc);
+        self.started |= set;
+    }
+}
+
+// All warps have ended.
+fn end_all(warps: &mut [Warp])
+    ensures { warps_of warps.new ≡ (λ w. started 0 0) }
+{
+    for warp in warps.iter_mut() {
+        warp.start(0, 0);
+    }
+}
+
+// The warps of a set begin at an address with lane 0 alone.
+fn start_warps(warps: &mut [Warp], set: u32, pc: u32)
+    requires warps { length warps.old ≡ 16 }
+    requires set { set < 2 ^ 16 }
+    ensures { warps_of warps.new ≡ with_started set pc (warps_of warps.old) }
+{
+    for (number, warp) in warps.iter_mut().enumerate() {
+        if has_warp(set, number as u32) {
+            warp.start(pc, 1);
+        }
+    }
+}
+
+// Whether a warp is in a set.
+fn has_warp(set: u32, warp: u32) -> bool
+    requires { warp < 32 }
+    ensures { result ≡ has_lane set warp }
+{
+    (set >> warp) % 2 == 1
+}
+
+// Whether a warp has not ended.
+fn is_running(warps: &[Warp], warp: u32) -> bool
+    requires { warp < length warps.now }
+    ensures { result ≡ is_running (warps_of warps.now) warp }
+{
+    warps[warp as usize].mask() != 0
+}
+
+// The warps that have not ended, as bits.
+fn running_in(warps: &[Warp]) -> u32
+    requires { length warps.now ≡ 16 }
+    ensures { result ≡ lanes_below 16 (is_running (warps_of warps.now)) }
+{
+    let mut set = 0;
+    for warp in 0..WARPS {
+        if is_running(warps, warp) {
+            set |= 1 << warp;
+        }
+    }
+    set
+}
+
+// Whether a `wspawn` with a count starts a warp.
+fn is_spawned(warps: &[Warp], count: u32, warp: u32) -> bool
+    requires { warp < length warps.now }
+    ensures { result ≡ is_spawned count (warps_of warps.now) warp }
+{
+    0 < warp && warp < count && !is_running(warps, warp)
+}
+
+// The warps that a `wspawn` with a count starts, as bits.
+fn spawned_in(warps: &[Warp], count: u32) -> u32
+    requires { length warps.now ≡ 16 }
+    ensures { result ≡ spawned_set count (warps_of warps.now) }
+{
+    let mut set = 0;
+    for warp in 0..WARPS {
+        if is_spawned(warps, count, warp) {
+            set |= 1 << warp;
+        }
+    }
+    set
+}
+
+// A warp that has not ended takes an instruction on the memory of its core.
+fn step_on<B: Bus, E: Evictor>(
+    warp: &mut Warp,
+    code: &[u32],
+    ids: Ids,
+    memory: &mut CoreMemory<'_, B, E>,
+) -> Step
+    requires active { warp.old.mask ≢ 0 }
+    requires sound { B.is_sound memory.old.bus.now }
+    requires lines { B.count memory.old.bus.now % 16 ≡ 0 }
+    requires banks { (1 ≤ memory.old.banks) × (memory.old.banks ≤ 16) }
+    ensures took { Takes (Reaches B.acts E.evicts (B.count memory.old.bus.now) (B.number memory.old.bus.now) memory.old.banks) (λ answers. warp_step (fields (B.count memory.old.bus.now)) ids code.now answers (state_of warp.old)) (reach_of memory.old) result (state_of warp.new) (reach_of memory.new) }
+    ensures lane { lane_of result ≤ 32 }
+    ensures bar { bar_of result < 16 }
+    ensures kept { KeepsLoans B.count B.number memory.old memory.new }
+    ensures sound { B.is_sound memory.new.bus.now }
+{
+    warp.step(code, ids, memory)
+}
