@@ -1,7 +1,6 @@
 -- A core, what a step makes of it, and how a group runs on it. Read `StepsOnce` and `RunsGroup` at the end first.
 use Rattle.std.specs.Prelude.{◌≡◌, ℕ, zero, suc, ◌<◌, true, List, length, Option, Some, None}
 use Rattle.vx_isa.specs.Warps.{WarpState, has_lane}
-use Rattle.vx_isa.specs.WarpSteps.{Takes, warp_step}
 use Rattle.vx_isa.specs.declared.image.Image.{Image}
 use Rattle.vx_isa.specs.declared.warps.Step.{Step}
 use Rattle.memory_banks.specs.declared.entry.BusEntry.{BusEntry}
@@ -9,7 +8,7 @@ use Rattle.vx_core.specs.Blocks.{cleared, with_block}
 use Rattle.vx_core.specs.Counting.{counted}
 use Rattle.vx_core.specs.Crews.{CrewState, done, opening, ready, with_warp}
 use Rattle.vx_core.specs.Ends.{end_after}
-use Rattle.vx_core.specs.Places.{Reach, Reaches, fields}
+use Rattle.vx_core.specs.Places.{Reach, TakesInstruction}
 use Rattle.vx_core.specs.declared.counts.Tally.{Tally}
 use Rattle.vx_core.specs.declared.end.GroupEnd.{GroupEnd}
 use Rattle.vx_core.specs.declared.end.GroupEnd.TheVariants.{Turns}
@@ -41,8 +40,8 @@ pub record StepsOnce {B E P : Type 0} (acts : B → BusEntry → B → Type 0) (
   pub picked : picks s.picker (ready s.crew) warp s'.picker
   pub outcome : Step
   pub moved : WarpState
-  pub took : Takes (Reaches acts evicts g.words g.port g.banks) (λ answers. warp_step (fields g.words) (record { core = g.core; warp = warp; lanes = g.job.lanes }) g.image.words answers (s.crew.warps warp)) s.reach outcome moved s'.reach
-  pub crew_is : s'.crew ≡ done g.job.warps warp outcome (record s.crew { warps = with_warp warp moved s.crew.warps })
+  pub took : TakesInstruction acts evicts g.words g.port g.banks (record { core = g.core; warp = warp; lanes = g.job.lanes }) g.image.words (s.crew.warps warp) s.reach outcome moved s'.reach
+  pub crew_is : s'.crew ≡ done g.job.warps warp outcome (with_warp warp moved s.crew)
   pub tally_is : s'.tally ≡ counted outcome (length moved.stack) s.tally
   pub end_is : end ≡ end_after g.image.sites g.job warp outcome s'.crew
 

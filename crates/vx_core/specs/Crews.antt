@@ -40,13 +40,17 @@ ended s = without s.begun (running s)
 abbrev pub with_started : ℕ → ℕ → (ℕ → WarpState) → ℕ → WarpState
 with_started set pc warps = λ w. if has_lane set w then started pc 1 else warps w
 
+-- one warp of all is another
+abbrev pub with_one : ℕ → WarpState → (ℕ → WarpState) → ℕ → WarpState
+with_one warp moved warps = λ w. if nat_eq w warp then moved else warps w
+
 -- a group begins: warp 0 alone is started, at the first word of the code, and no warp waits
 abbrev pub opening : CrewState
 opening = record { warps = with_started 1 code_start (λ w. started 0 0); begun = 1; barriers = replicate 16 0 }
 
--- a warp stands so
-abbrev pub with_warp : ℕ → WarpState → (ℕ → WarpState) → ℕ → WarpState
-with_warp warp moved warps = λ w. if nat_eq w warp then moved else warps w
+-- one warp stands so, and the others as before
+abbrev pub with_warp : ℕ → WarpState → CrewState → CrewState
+with_warp warp moved s = record { warps = with_one warp moved s.warps; begun = s.begun; barriers = s.barriers }
 
 -- whether a `wspawn` that names so many warps starts this one: it is above 0 and has ended or was not started
 abbrev pub is_spawned : ℕ → (ℕ → WarpState) → ℕ → Bool

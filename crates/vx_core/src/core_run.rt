@@ -1,9 +1,8 @@
 ghost use Rattle.std.specs.Prelude.{◌≡◌, ◌≢◌, ◌+◌, ◌*◌, ◌%◌, ◌^◌, ◌<◌, ◌≤◌, IfOk, None, length};
-ghost use Rattle.vx_isa.specs.WarpSteps.{Takes, warp_step};
 ghost use Rattle.vx_core.specs.Blocks.{cleared, with_block};
 ghost use Rattle.vx_core.specs.Crews.{opening, ready, with_warp};
 ghost use Rattle.vx_core.specs.Ends.{bar_of, lane_of};
-ghost use Rattle.vx_core.specs.Places.{Reaches, fields};
+ghost use Rattle.vx_core.specs.Places.{TakesInstruction};
 
 use crate::counts::{BANKS, CoreCounts, Tally};
 use crate::crew::Crew;
@@ -95,7 +94,8 @@ impl Core {
         requires clear { job.now.clear ≤ 1048576 }
         requires lanes { job.now.lanes ≤ 32 }
         requires items { job.now.group * job.now.local + 512 < 2 ^ 32 }
-        ensures runs { RunsGroup B.acts E.evicts P.begins P.picks (setting_of self.old (B.count bus.old) (B.number bus.old) image.now job.now) (core_state self.old bus.old evict.old pick.old) result (core_state self.new bus.new evict.new pick.new) }
+        ensures runs { RunsGroup B.acts E.evicts P.begins P.picks (setting_of self.old (B.count bus.old) (B.number bus.old) image.now job.now)
+            (core_state self.old bus.old evict.old pick.old) result (core_state self.new bus.new evict.new pick.new) }
         ensures same_core { KeepsNumbers self.old self.new }
         ensures sound { B.is_sound bus.new }
         ensures same_bus { (B.count bus.new ≡ B.count bus.old) × (B.number bus.new ≡ B.number bus.old) }
@@ -137,7 +137,8 @@ impl Core {
         requires lines { B.count bus.old % 16 ≡ 0 }
         requires lanes { job.now.lanes ≤ 32 }
         requires items { job.now.group * job.now.local + 512 < 2 ^ 32 }
-        ensures steps { StepsOnce B.acts E.evicts P.picks (setting_of self.old (B.count bus.old) (B.number bus.old) image.now job.now) (core_state self.old bus.old evict.old pick.old) result (core_state self.new bus.new evict.new pick.new) }
+        ensures steps { StepsOnce B.acts E.evicts P.picks (setting_of self.old (B.count bus.old) (B.number bus.old) image.now job.now)
+            (core_state self.old bus.old evict.old pick.old) result (core_state self.new bus.new evict.new pick.new) }
         ensures ready { (result ≡ None) → ready (core_crew self.new) ≢ 0 }
         ensures same_core { KeepsNumbers self.old self.new }
         ensures sound { B.is_sound bus.new }
@@ -163,8 +164,9 @@ impl Core {
         requires active { ((core_crew self.old).warps warp).mask ≢ 0 }
         requires sound { B.is_sound bus.old }
         requires lines { B.count bus.old % 16 ≡ 0 }
-        ensures took { Takes (Reaches B.acts E.evicts (B.count bus.old) (B.number bus.old) (banks_of self.old)) (λ answers. warp_step (fields (B.count bus.old)) (record { core = number_of self.old; warp = warp; lanes = job.now.lanes }) image.now.words answers ((core_crew self.old).warps warp)) (core_reach self.old bus.old evict.old) result ((core_crew self.new).warps warp) (core_reach self.new bus.new evict.new) }
-        ensures crew { core_crew self.new ≡ record (core_crew self.old) { warps = with_warp warp ((core_crew self.new).warps warp) (core_crew self.old).warps } }
+        ensures took { TakesInstruction B.acts E.evicts (B.count bus.old) (B.number bus.old) (banks_of self.old) (record { core = number_of self.old; warp = warp; lanes = job.now.lanes }) image.now.words
+            ((core_crew self.old).warps warp) (core_reach self.old bus.old evict.old) result ((core_crew self.new).warps warp) (core_reach self.new bus.new evict.new) }
+        ensures crew { core_crew self.new ≡ with_warp warp ((core_crew self.new).warps warp) (core_crew self.old) }
         ensures lane { lane_of result ≤ 32 }
         ensures bar { bar_of result < 16 }
         ensures tally { tally_of self.new ≡ tally_of self.old }

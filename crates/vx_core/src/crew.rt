@@ -1,10 +1,9 @@
 ghost use Rattle.std.specs.Prelude.{◌≡◌, ◌≢◌, ◌%◌, ◌^◌, ◌<◌, ◌≤◌, length, true};
 ghost use Rattle.vx_isa.specs.Warps.{has_lane, lanes_below, started};
-ghost use Rattle.vx_isa.specs.WarpSteps.{Takes, warp_step};
 ghost use Rattle.vx_core.specs.CoreMemory.{KeepsLoans, reach_of};
 ghost use Rattle.vx_core.specs.Crews.{done, ended, is_running, is_spawned, opening, ready, running, spawned, spawned_set, waiting, with_started, with_warp, without};
 ghost use Rattle.vx_core.specs.Ends.{bar_of, lane_of};
-ghost use Rattle.vx_core.specs.Places.{Reaches, fields};
+ghost use Rattle.vx_core.specs.Places.{TakesInstruction};
 ghost use Rattle.vx_core.specs.WarpLists.{warps_of};
 ghost use Rattle.warp_state.specs.Lanes.{state_of};
 
@@ -119,8 +118,9 @@ impl Crew {
         requires sound { B.is_sound memory.old.bus.now }
         requires lines { B.count memory.old.bus.now % 16 ≡ 0 }
         requires banks { (1 ≤ memory.old.banks) × (memory.old.banks ≤ 16) }
-        ensures took { Takes (Reaches B.acts E.evicts (B.count memory.old.bus.now) (B.number memory.old.bus.now) memory.old.banks) (λ answers. warp_step (fields (B.count memory.old.bus.now)) ids code.now answers ((crew_of self.old).warps ids.warp)) (reach_of memory.old) result ((crew_of self.new).warps ids.warp) (reach_of memory.new) }
-        ensures crew { crew_of self.new ≡ record (crew_of self.old) { warps = with_warp ids.warp ((crew_of self.new).warps ids.warp) (crew_of self.old).warps } }
+        ensures took { TakesInstruction B.acts E.evicts (B.count memory.old.bus.now) (B.number memory.old.bus.now) memory.old.banks ids code.now
+            ((crew_of self.old).warps ids.warp) (reach_of memory.old) result ((crew_of self.new).warps ids.warp) (reach_of memory.new) }
+        ensures crew { crew_of self.new ≡ with_warp ids.warp ((crew_of self.new).warps ids.warp) (crew_of self.old) }
         ensures lane { lane_of result ≤ 32 }
         ensures bar { bar_of result < 16 }
         ensures kept { KeepsLoans B.count B.number memory.old memory.new }
@@ -239,7 +239,8 @@ fn step_on<B: Bus, E: Evictor>(
     requires sound { B.is_sound memory.old.bus.now }
     requires lines { B.count memory.old.bus.now % 16 ≡ 0 }
     requires banks { (1 ≤ memory.old.banks) × (memory.old.banks ≤ 16) }
-    ensures took { Takes (Reaches B.acts E.evicts (B.count memory.old.bus.now) (B.number memory.old.bus.now) memory.old.banks) (λ answers. warp_step (fields (B.count memory.old.bus.now)) ids code.now answers (state_of warp.old)) (reach_of memory.old) result (state_of warp.new) (reach_of memory.new) }
+    ensures took { TakesInstruction B.acts E.evicts (B.count memory.old.bus.now) (B.number memory.old.bus.now) memory.old.banks ids code.now
+        (state_of warp.old) (reach_of memory.old) result (state_of warp.new) (reach_of memory.new) }
     ensures lane { lane_of result ≤ 32 }
     ensures bar { bar_of result < 16 }
     ensures kept { KeepsLoans B.count B.number memory.old memory.new }
