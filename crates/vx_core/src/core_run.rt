@@ -1,6 +1,6 @@
 ghost use Rattle.std.specs.Prelude.{◌≡◌, ◌≢◌, ◌+◌, ◌*◌, ◌%◌, ◌^◌, ◌<◌, ◌≤◌, IfOk, None, length};
-ghost use Rattle.vx_core.specs.Blocks.{cleared, with_block};
-ghost use Rattle.vx_core.specs.Crews.{opening, ready, with_warp};
+ghost use Rattle.vx_core.specs.Blocks.{with_zeros, with_block};
+ghost use Rattle.vx_core.specs.Crews.{opening, ready_warps, with_warp};
 ghost use Rattle.vx_core.specs.Ends.{bar_of, lane_of};
 ghost use Rattle.vx_core.specs.Places.{TakesInstruction};
 
@@ -114,7 +114,7 @@ impl Core {
     fn begin_group(&mut self, job: &GroupJob)
         requires clear { job.now.clear ≤ 1048576 }
         ensures crew { core_crew self.new ≡ opening }
-        ensures scratch { self.new.scratch ≡ with_block job.now.block (cleared job.now.clear self.old.scratch) }
+        ensures scratch { self.new.scratch ≡ with_block job.now.block (with_zeros job.now.clear self.old.scratch) }
         ensures rest { (self.new.cache ≡ self.old.cache) × (self.new.steps ≡ self.old.steps) × (self.new.tally ≡ self.old.tally) }
         ensures same_core { KeepsNumbers self.old self.new }
     {
@@ -132,14 +132,14 @@ impl Core {
         pick: &mut P,
         evict: &mut E,
     ) -> Option<GroupEnd>
-        requires ready { ready (core_crew self.old) ≢ 0 }
+        requires ready { ready_warps (core_crew self.old) ≢ 0 }
         requires sound { B.is_sound bus.old }
         requires lines { B.count bus.old % 16 ≡ 0 }
         requires lanes { job.now.lanes ≤ 32 }
         requires items { job.now.group * job.now.local + 512 < 2 ^ 32 }
         ensures steps { StepsOnce B.acts E.evicts P.picks (setting_of self.old (B.count bus.old) (B.number bus.old) image.now job.now)
             (core_state self.old bus.old evict.old pick.old) result (core_state self.new bus.new evict.new pick.new) }
-        ensures ready { (result ≡ None) → ready (core_crew self.new) ≢ 0 }
+        ensures ready { (result ≡ None) → ready_warps (core_crew self.new) ≢ 0 }
         ensures same_core { KeepsNumbers self.old self.new }
         ensures sound { B.is_sound bus.new }
         ensures same_bus { (B.count bus.new ≡ B.count bus.old) × (B.number bus.new ≡ B.number bus.old) }
@@ -192,10 +192,10 @@ impl Core {
 }
 
 // Sets the bytes of a scratchpad below a place to 0.
-#[tactic(auto, unfolding(crate::specs::Blocks::cleared))]
+#[tactic(auto, unfolding(crate::specs::Blocks::with_zeros))]
 fn clear_below(scratch: &mut Scratch, end: u32)
     requires { end ≤ BYTES }
-    ensures { scratch.new ≡ cleared end scratch.old }
+    ensures { scratch.new ≡ with_zeros end scratch.old }
 {
     scratch.clear_to(end);
 }
