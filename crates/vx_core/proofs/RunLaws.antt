@@ -1,10 +1,10 @@
 -- A run of a group, step by step.
-use Rattle.std.proofs.Common.{◌≡◌, ℕ, zero, suc, ◌<◌, List, Option, Some, None, ap, ◌∙◌, subst, arith, refl}
+use Rattle.std.proofs.Common.{◌≡◌, ℕ, suc, ◌<◌, List, Option, Some, None, ap, ◌∙◌, subst, arith, refl}
 use Rattle.vx_isa.specs.declared.image.Image.{Image}
 use Rattle.memory_banks.specs.declared.entry.BusEntry.{BusEntry}
 use Rattle.l1_cache.specs.Lines.{Lines}
 use Rattle.vx_core.specs.Blocks.{with_zeros, with_block}
-use Rattle.vx_core.specs.CoreSteps.{CoreState, Ends, GoesOn, Runs, RunsGroup, RunsOut, Setting, StepsOnce, group_start}
+use Rattle.vx_core.specs.CoreSteps.{CoreState, Ends, GoesOn, RunsGroup, RunsOut, Setting, StepsOnce, group_start}
 use Rattle.vx_core.specs.Cores.{KeepsNumbers, core_crew, core_state, setting_of}
 use Rattle.vx_core.specs.Crews.{CrewState, opening, ready_warps}
 use Rattle.vx_core.specs.declared.core_run.Core.{Core}

@@ -1,10 +1,10 @@
 -- Warps in a list, by number.
-use Rattle.std.proofs.Common.{◌≡◌, ℕ, ◌+◌, ◌^◌, ◌<◌, ◌≤◌, true, false, ◌&&◌, nat_eq, nat_lt, if◌then◌else◌, List, [], length, get_or, set, replicate, inl, inr, ap, sym, ◌∙◌, subst, arith, refl, eq-eqb, ne_eqb, lt-ltb, le-ltb}
+use Rattle.std.proofs.Common.{◌≡◌, ℕ, ◌+◌, ◌^◌, ◌<◌, ◌≤◌, true, false, ◌&&◌, nat_lt, if◌then◌else◌, List, [], length, get_or, set, replicate, inl, inr, ap, sym, ◌∙◌, subst, arith, refl, eq-eqb, ne_eqb, lt-ltb, le-ltb}
 use Rattle.std.proofs.Math.Path.{fun_ext}
 use Rattle.std.proofs.lemmas.Bool.{cases_lt, cases_eq}
 use Rattle.std.proofs.lemmas.List.{get_or_past, get_or-set_same, get_or-set_other}
 use Rattle.vx_isa.specs.Warps.{Registers, WarpState, has_lane, started}
-use Rattle.warp_state.specs.Lanes.{KeptWarp, idle, state_of, registers_in}
+use Rattle.warp_state.specs.Lanes.{KeptWarp, idle, state_of}
 use Rattle.warp_state.proofs.IdleLanes.{registers_in-idle}
 use Rattle.vx_core.specs.Crews.{with_started, with_one}
 use Rattle.vx_core.specs.WarpLists.{warps_of}

@@ -1,5 +1,5 @@
 -- A core, what a step makes of it, and how a group runs on it. Read `StepsOnce` and `RunsGroup` at the end first.
-use Rattle.std.specs.Prelude.{◌≡◌, ℕ, zero, suc, ◌<◌, true, List, length, Option, Some, None}
+use Rattle.std.specs.Prelude.{◌≡◌, ℕ, zero, suc, ◌<◌, true, length, Option, Some, None}
 use Rattle.vx_isa.specs.Warps.{WarpState, has_lane}
 use Rattle.vx_isa.specs.declared.image.Image.{Image}
 use Rattle.vx_isa.specs.declared.warps.Step.{Step}

@@ -80,7 +80,10 @@ impl Core {
         }
     }
 
-    /// Runs a group to its end, or until it has taken `turns` instructions. The bus has a whole number of cache lines.
+    /// Runs a group to its end, or until it has taken `turns` instructions. It takes no memory.
+    ///
+    /// A warp has at most 32 lanes, at most the 1,048,576 bytes of the scratchpad are cleared, and the numbers of all items are
+    /// below 2^32. The bus has a whole number of cache lines.
     pub fn run_group<B: Bus, P: Picker, E: Evictor>(
         &mut self,
         image: &Image,
