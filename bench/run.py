@@ -9,7 +9,7 @@
   bench/run.py lanes  millions of lane instructions a second of processor time of one warp with 1, 8 and 32 active lanes in a
                       straight arithmetic loop, to reach 100 with 32; after rt ci or, in crates/lane_steps, rt run has built
                       that program
-  bench/run.py core   thousands of instructions a second of processor time of one core with 1 and 16 warps, in a loop with a load
+  bench/run.py core   millions of instructions a second of processor time of one core with 1 and 16 warps, in a loop with a load
                       and a store on words of its own; after rt ci or, in crates/core_steps, rt run has built that program
 
 The peak is never below that of the interpreter that starts the program, about 14 MiB.
@@ -29,7 +29,7 @@ CORE_STEPS = os.path.join(TOP, "crates", "core_steps", "out", "core_steps")
 FRONT_SPEED = os.path.join(TOP, "crates", "front_speed", "out", "front_speed")
 STEPS = 20_000_000
 WARP_STEPS = 10_000_000
-GROUP_STEPS = 1_000_000
+GROUP_STEPS = 10_000_000
 LIMIT = 1_048_576
 
 
@@ -135,10 +135,10 @@ def core():
     """What starting up takes is measured with one instruction, and taken off."""
     if not os.access(CORE_STEPS, os.X_OK):
         sys.exit("bench: core_steps is not built: run rt run -- 1 1 in crates/core_steps once")
-    print("%-8s %20s" % ("warps", "instructions, k/s"))
+    print("%-8s %20s" % ("warps", "instructions, M/s"))
     for warps in (1, 16):
         taken = processor_seconds_of(CORE_STEPS, warps, GROUP_STEPS) - processor_seconds_of(CORE_STEPS, warps, 1)
-        print("%-8d %20.1f" % (warps, GROUP_STEPS / taken / 1e3))
+        print("%-8d %20.1f" % (warps, GROUP_STEPS / taken / 1e6))
     return 0
 
 

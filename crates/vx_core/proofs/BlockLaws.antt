@@ -1,11 +1,10 @@
 -- A launch block at the head of a scratchpad, word by word.
-use Rattle.std.proofs.Common.{◌≡◌, ℕ, suc, ◌+◌, ◌*◌, ◌<◌, ◌≤◌, List, [], ◌∷◌, ◌++◌, length, get_or, take, drop, ap, sym, ◌∙◌, subst, arith, refl}
+use Rattle.std.proofs.Common.{◌≡◌, ℕ, ◌+◌, ◌*◌, ◌<◌, List, [], ◌∷◌, ◌++◌, length, get_or, take, drop, ap, sym, ◌∙◌, subst, arith, refl}
 use Rattle.std.specs.List.{flat_map}
 use Rattle.std.proofs.lemmas.Grind.{flat_map-append}
 use Rattle.std.proofs.lemmas.List.{length-take-le, take_more}
 use Rattle.std.proofs.Math.Seq.{take-append_seam, drop-append-add, drop-drop}
 use Rattle.vx_base.specs.Bytes.{number_bytes, with_field}
-use Rattle.vx_core.specs.Blocks.{with_block}
 
 -- the bytes of words
 abbrev pub bytes_in : List ℕ → List ℕ

@@ -1,5 +1,5 @@
 -- Accesses through the loans of a core.
-use Rattle.std.proofs.Common.{◌≡◌, ℕ, ◌+◌, ◌*◌, ◌/◌, ◌%◌, ◌≤◌, List, [], ◌∷◌, ap, ◌∙◌, subst, arith, refl}
+use Rattle.std.proofs.Common.{◌≡◌, ℕ, ◌+◌, ◌*◌, ◌/◌, ◌%◌, ◌≤◌, List, [], ◌∷◌, ap, ◌∙◌, subst, arith}
 use Rattle.vx_base.specs.Bytes.{bytes_of}
 use Rattle.vx_base.specs.declared.types.Size.{Size}
 use Rattle.vx_base.specs.declared.types.Size.TheVariants.{One, Two, Four}

@@ -1,9 +1,9 @@
 -- What a step names: a lane below 33, and a barrier below 16.
-use Rattle.std.proofs.Common.{◌≡◌, ℕ, zero, suc, ◌%◌, ◌<◌, ◌≤◌, Bool, true, false, not, ◌&&◌, nat_eq, if◌then◌else◌, List, [], ◌∷◌, Option, Some, None, arith}
+use Rattle.std.proofs.Common.{ℕ, zero, suc, ◌<◌, ◌≤◌, Bool, true, false, not, ◌&&◌, nat_eq, if◌then◌else◌, List, [], ◌∷◌, Option, Some, None, arith}
 use Rattle.std.specs.Prelude.{Result, Ok, Err}
 use Rattle.vx_isa.specs.Effects.{address_at}
-use Rattle.vx_isa.specs.Warps.{WarpState, has_lane, least_below, leader, cut}
-use Rattle.vx_isa.specs.WarpSteps.{Fields, Stepped, agree, diverge, fetched, fetched_step, go_on, has_room, instr_step, join_step, lane_fault, lanes_step, lanes_stepped, leader_value, nonzero_lanes, pred_mask, split_step, stop_lane, warp_step, whole_trap, with_mask, zero_lanes}
+use Rattle.vx_isa.specs.Warps.{WarpState, has_lane, least_below, cut}
+use Rattle.vx_isa.specs.WarpSteps.{Fields, agree, diverge, fetched, fetched_step, go_on, has_room, instr_step, join_step, lane_fault, lanes_step, lanes_stepped, leader_value, nonzero_lanes, pred_mask, split_step, stop_lane, warp_step, whole_trap, with_mask, zero_lanes}
 use Rattle.vx_isa.specs.declared.instr.Instr.{Instr}
 use Rattle.vx_isa.specs.declared.instr.Instr.TheVariants as i
 use Rattle.vx_isa.specs.declared.warps.Held.{Held}

@@ -1,12 +1,12 @@
 -- Sets of warps.
-use Rattle.std.proofs.Common.{◌≡◌, ◌≢◌, ℕ, zero, suc, ◌*◌, ◌^◌, ◌<◌, ◌≤◌, Bool, true, false, not, nat_eq, if◌then◌else◌, inl, inr, ap, sym, ◌∙◌, arith, refl, eq-eqb}
+use Rattle.std.proofs.Common.{◌≡◌, ℕ, zero, suc, ◌*◌, ◌^◌, ◌<◌, ◌≤◌, Bool, true, false, not, nat_eq, if◌then◌else◌, inl, inr, ap, sym, ◌∙◌, arith, refl, eq-eqb}
 use Rattle.std.specs.Prelude.{bit_and, min}
 use Rattle.std.specs.Int.{IsBitSet, bit_at, bit_not, w32}
 use Rattle.std.proofs.lemmas.Nat.Bits.{and_pow, bit_at-lt, bit_at_and, bit_at_above}
 use Rattle.std.proofs.lemmas.Bool.{cases_lt, true≢false}
 use Rattle.vx_isa.specs.Warps.{has_lane, lanes_below}
 use Rattle.vx_isa.proofs.MaskLaws.{has_lane-one, has_lane-zero, lanes_below-lt, bit_at-lanes_below}
-use Rattle.vx_core.specs.Crews.{CrewState, is_running, opening, ready, running, waiting}
+use Rattle.vx_core.specs.Crews.{CrewState, is_running, opening, ready_warps, running_warps, waiting_warps}
 
 -- a bit that is set is 1
 set_bit : (b value power : ℕ) → b < 2 → value ≡ b * power → (value ≡ 0 → ⊥) → b ≡ 1
@@ -31,25 +31,25 @@ one_then false same = let none : ⊥ = omega arith in absurd none
 not_zero : (mask : ℕ) → not (nat_eq mask 0) ≡ true → mask ≡ 0 → ⊥
 not_zero mask holds none = true≢false (sym holds ∙ ap not (eq-eqb mask 0 none))
 
-running_warp : (s : CrewState) (warp : ℕ) → bit_at (running s) warp ≡ 1 → (warp < 16) × ((s.warps warp).mask ≡ 0 → ⊥)
+running_warp : (s : CrewState) (warp : ℕ) → bit_at (running_warps s) warp ≡ 1 → (warp < 16) × ((s.warps warp).mask ≡ 0 → ⊥)
 running_warp s warp one =
     elim (cases_lt warp 16) [
       | inl below ↦ (below, not_zero (s.warps warp).mask (one_then (is_running s.warps warp) (sym (bit_at-lanes_below 16 (is_running s.warps) warp below) ∙ one)))
       | inr past ↦
-          let off : bit_at (running s) warp ≡ 0 = bit_at_above (running s) 16 warp (lanes_below-lt 16 (is_running s.warps)) past in
+          let off : bit_at (running_warps s) warp ≡ 0 = bit_at_above (running_warps s) 16 warp (lanes_below-lt 16 (is_running s.warps)) past in
           let none : ⊥ = omega (arith, off, one) in
           absurd none
     ]
 
 -- a warp that can take a step is one of the sixteen, and has not ended
-pub ready_warp : (s : CrewState) (warp : ℕ) → IsBitSet (ready s) warp → (warp < 16) × ((s.warps warp).mask ≡ 0 → ⊥)
+pub ready_warp : (s : CrewState) (warp : ℕ) → IsBitSet (ready_warps s) warp → (warp < 16) × ((s.warps warp).mask ≡ 0 → ⊥)
 ready_warp s warp some =
-    let one : bit_at (ready s) warp ≡ 1 = bit_at-set (ready s) warp some in
-    let both : bit_at (ready s) warp ≡ min (bit_at (running s) warp) (bit_at (bit_not w32 (waiting s)) warp) = bit_at_and (running s) (bit_not w32 (waiting s)) warp in
-    let few : bit_at (running s) warp < 2 = bit_at-lt (running s) warp in
+    let one : bit_at (ready_warps s) warp ≡ 1 = bit_at-set (ready_warps s) warp some in
+    let both : bit_at (ready_warps s) warp ≡ min (bit_at (running_warps s) warp) (bit_at (bit_not w32 (waiting_warps s)) warp) = bit_at_and (running_warps s) (bit_not w32 (waiting_warps s)) warp in
+    let few : bit_at (running_warps s) warp < 2 = bit_at-lt (running_warps s) warp in
     running_warp s warp (omega (arith, one, both, few))
 
 -- where a group begins, warp 0 can take a step
-pub ready-opening : ready opening ≡ 1
+pub ready-opening : ready_warps opening ≡ 1
 unfolding lanes_below
 ready-opening = refl

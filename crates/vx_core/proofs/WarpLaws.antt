@@ -1,17 +1,17 @@
 -- Warps in a list, by number.
-use Rattle.std.proofs.Common.{◌≡◌, ℕ, ◌+◌, ◌^◌, ◌<◌, ◌≤◌, true, false, ◌&&◌, nat_eq, nat_lt, if◌then◌else◌, List, [], length, get_or, set, replicate, inl, inr, ap, sym, ◌∙◌, subst, arith, refl, eq-eqb, ne_eqb, lt-ltb, le-ltb}
+use Rattle.std.proofs.Common.{◌≡◌, ℕ, ◌+◌, ◌^◌, ◌<◌, ◌≤◌, true, false, ◌&&◌, nat_lt, if◌then◌else◌, List, [], length, get_or, set, replicate, inl, inr, ap, sym, ◌∙◌, subst, arith, refl, eq-eqb, ne_eqb, lt-ltb, le-ltb}
 use Rattle.std.proofs.Math.Path.{fun_ext}
 use Rattle.std.proofs.lemmas.Bool.{cases_lt, cases_eq}
 use Rattle.std.proofs.lemmas.List.{get_or_past, get_or-set_same, get_or-set_other}
 use Rattle.vx_isa.specs.Warps.{Registers, WarpState, has_lane, started}
-use Rattle.warp_state.specs.Lanes.{KeptWarp, idle, state_of, registers_in}
+use Rattle.warp_state.specs.Lanes.{KeptWarp, idle, state_of}
 use Rattle.warp_state.proofs.IdleLanes.{registers_in-idle}
-use Rattle.vx_core.specs.Crews.{with_started, with_warp}
+use Rattle.vx_core.specs.Crews.{with_started, with_one}
 use Rattle.vx_core.specs.WarpLists.{warps_of}
 use Rattle.vx_core.proofs.SetLaws.{has_lane-past}
 
 -- one warp of a list is changed
-pub warps_of-set : (warps : List KeptWarp) (k : ℕ) (w : KeptWarp) → k < length warps → warps_of (set warps k w) ≡ with_warp k (state_of w) (warps_of warps)
+pub warps_of-set : (warps : List KeptWarp) (k : ℕ) (w : KeptWarp) → k < length warps → warps_of (set warps k w) ≡ with_one k (state_of w) (warps_of warps)
 warps_of-set warps k w within = fun_ext (λ j.
     elim (cases_eq j k) [
       | inl same ↦
@@ -34,7 +34,7 @@ ended_below n warps = λ w. if nat_lt w n then started 0 0 else warps w
 pub ended_below-none : (warps : ℕ → WarpState) → warps ≡ ended_below 0 warps
 ended_below-none warps = fun_ext (λ w. rw (le-ltb w 0 (omega arith)) refl)
 
-pub ended_below-more : (n : ℕ) (warps now : ℕ → WarpState) → now ≡ ended_below n warps → with_warp n (started 0 0) now ≡ ended_below (n + 1) warps
+pub ended_below-more : (n : ℕ) (warps now : ℕ → WarpState) → now ≡ ended_below n warps → with_one n (started 0 0) now ≡ ended_below (n + 1) warps
 ended_below-more n warps now same = fun_ext (λ w.
     elim (cases_lt w n) [
       | inl below ↦ rw (ne_eqb w n (λ equal. omega arith), lt-ltb w (n + 1) (omega arith)) (ap (λ (f : ℕ → WarpState). f w) same ∙ rw (lt-ltb w n below) refl)
@@ -67,7 +67,7 @@ started_other n chosen pc warps w other =
       | inr above ↦ rw (le-ltb w n above, le-ltb w (n + 1) (omega arith)) refl
     ]
 
-pub started_below-more : (n chosen pc : ℕ) (warps now : ℕ → WarpState) → now ≡ started_below n chosen pc warps → has_lane chosen n ≡ true → with_warp n (started pc 1) now ≡ started_below (n + 1) chosen pc warps
+pub started_below-more : (n chosen pc : ℕ) (warps now : ℕ → WarpState) → now ≡ started_below n chosen pc warps → has_lane chosen n ≡ true → with_one n (started pc 1) now ≡ started_below (n + 1) chosen pc warps
 started_below-more n chosen pc warps now same is_in = fun_ext (λ w.
     elim (cases_eq w n) [
       | inl equal ↦

@@ -8,8 +8,8 @@ unfoldable pub zeros : ℕ → List ℕ
 zeros count = replicate count 0
 
 -- a scratchpad with the bytes below a place 0
-unfoldable pub cleared : ℕ → List ℕ → List ℕ
-cleared end scratch = replicate end 0 ++ drop end scratch
+unfoldable pub with_zeros : ℕ → List ℕ → List ℕ
+with_zeros end scratch = replicate end 0 ++ drop end scratch
 
 -- a scratchpad with a launch block at its head
 abbrev pub with_block : List ℕ → List ℕ → List ℕ

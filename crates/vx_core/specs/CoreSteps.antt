@@ -1,15 +1,14 @@
 -- A core, what a step makes of it, and how a group runs on it. Read `StepsOnce` and `RunsGroup` at the end first.
-use Rattle.std.specs.Prelude.{◌≡◌, ℕ, zero, suc, ◌<◌, true, List, length, Option, Some, None}
+use Rattle.std.specs.Prelude.{◌≡◌, ℕ, zero, suc, ◌<◌, true, length, Option, Some, None}
 use Rattle.vx_isa.specs.Warps.{WarpState, has_lane}
-use Rattle.vx_isa.specs.WarpSteps.{Takes, warp_step}
 use Rattle.vx_isa.specs.declared.image.Image.{Image}
 use Rattle.vx_isa.specs.declared.warps.Step.{Step}
 use Rattle.memory_banks.specs.declared.entry.BusEntry.{BusEntry}
-use Rattle.vx_core.specs.Blocks.{cleared, with_block}
-use Rattle.vx_core.specs.Counting.{counted}
-use Rattle.vx_core.specs.Crews.{CrewState, done, opening, ready, with_warp}
+use Rattle.vx_core.specs.Blocks.{with_zeros, with_block}
+use Rattle.vx_core.specs.Counting.{tally_after}
+use Rattle.vx_core.specs.Crews.{CrewState, crew_after, opening, ready_warps, with_warp}
 use Rattle.vx_core.specs.Ends.{end_after}
-use Rattle.vx_core.specs.Places.{Reach, Reaches, fields}
+use Rattle.vx_core.specs.Places.{Reach, TakesInstruction}
 use Rattle.vx_core.specs.declared.counts.Tally.{Tally}
 use Rattle.vx_core.specs.declared.end.GroupEnd.{GroupEnd}
 use Rattle.vx_core.specs.declared.end.GroupEnd.TheVariants.{Turns}
@@ -37,13 +36,13 @@ pub record Setting : Type 0 where
 -- then follows what the instruction does to the barriers and to other warps. It is counted, and may end the group.
 pub record StepsOnce {B E P : Type 0} (acts : B → BusEntry → B → Type 0) (evicts : E → ℕ → ℕ → ℕ → ℕ → E → Type 0) (picks : P → ℕ → ℕ → P → Type 0) (g : Setting) (s : CoreState B E P) (end : Option GroupEnd) (s' : CoreState B E P) : Type 0 where
   pub warp : ℕ
-  pub is_ready : has_lane (ready s.crew) warp ≡ true
-  pub picked : picks s.picker (ready s.crew) warp s'.picker
+  pub is_ready : has_lane (ready_warps s.crew) warp ≡ true
+  pub picked : picks s.picker (ready_warps s.crew) warp s'.picker
   pub outcome : Step
   pub moved : WarpState
-  pub took : Takes (Reaches acts evicts g.words g.port g.banks) (λ answers. warp_step (fields g.words) (record { core = g.core; warp = warp; lanes = g.job.lanes }) g.image.words answers (s.crew.warps warp)) s.reach outcome moved s'.reach
-  pub crew_is : s'.crew ≡ done g.job.warps warp outcome (record s.crew { warps = with_warp warp moved s.crew.warps })
-  pub tally_is : s'.tally ≡ counted outcome (length moved.stack) s.tally
+  pub took : TakesInstruction acts evicts g.words g.port g.banks (record { core = g.core; warp = warp; lanes = g.job.lanes }) g.image.words (s.crew.warps warp) s.reach outcome moved s'.reach
+  pub crew_is : s'.crew ≡ crew_after g.job.warps warp outcome (with_warp warp moved s.crew)
+  pub tally_is : s'.tally ≡ tally_after outcome (length moved.stack) s.tally
   pub end_is : end ≡ end_after g.image.sites g.job warp outcome s'.crew
 
 -- so many steps, of which none ends the group
@@ -57,11 +56,11 @@ pub data Runs {B E P : Type 0} (acts : B → BusEntry → B → Type 0) (evicts 
   RunsOut : GoesOn acts evicts picks g g.job.turns s s' → end ≡ Turns g.job.turns → Runs acts evicts picks g s end s'
 
 -- the core as a group finds it, with the policy that was begun for it
-abbrev pub opened : {B E P : Type 0} → GroupJob → P → CoreState B E P → CoreState B E P
-opened job picker s = record {
+abbrev pub group_start : {B E P : Type 0} → GroupJob → P → CoreState B E P → CoreState B E P
+group_start job picker s = record {
   crew = opening;
   tally = s.tally;
-  reach = record s.reach { scratch = with_block job.block (cleared job.clear s.reach.scratch) };
+  reach = record s.reach { scratch = with_block job.block (with_zeros job.clear s.reach.scratch) };
   picker = picker;
 }
 
@@ -69,4 +68,4 @@ opened job picker s = record {
 pub record RunsGroup {B E P : Type 0} (acts : B → BusEntry → B → Type 0) (evicts : E → ℕ → ℕ → ℕ → ℕ → E → Type 0) (begins : P → ℕ → P → Type 0) (picks : P → ℕ → ℕ → P → Type 0) (g : Setting) (s : CoreState B E P) (end : GroupEnd) (s' : CoreState B E P) : Type 0 where
   pub picker : P
   pub begun : begins s.picker g.job.group picker
-  pub runs : Runs acts evicts picks g (opened g.job picker s) end s'
+  pub runs : Runs acts evicts picks g (group_start g.job picker s) end s'

@@ -2,7 +2,7 @@
 use Rattle.std.specs.Prelude.{◌≡◌, ℕ, replicate}
 use Rattle.vx_isa.specs.declared.image.Image.{Image}
 use Rattle.l1_cache.specs.Lines.{no_lines}
-use Rattle.vx_core.specs.Blocks.{cleared, zeros}
+use Rattle.vx_core.specs.Blocks.{with_zeros, zeros}
 use Rattle.vx_core.specs.Counting.{no_tally}
 use Rattle.vx_core.specs.Crews.{CrewState}
 use Rattle.vx_core.specs.CoreSteps.{CoreState, Setting}
@@ -70,7 +70,7 @@ pub record IsNew (number banks sets : ℕ) (core : Core) : Type 0 where
 -- a launch begins: all bytes of the scratchpad are 0, the cache keeps no line, and all counts are 0
 pub record BeginsLaunch (old new : Core) : Type 0 where
   pub same_core : KeepsNumbers old new
-  pub scratch_is : new.scratch ≡ cleared 1048576 old.scratch
+  pub scratch_is : new.scratch ≡ with_zeros 1048576 old.scratch
   pub lines_are : new.cache ≡ no_lines old.cache.set_count
   pub tally_is : new.tally ≡ no_tally
   pub steps_are : new.steps ≡ replicate 16 0

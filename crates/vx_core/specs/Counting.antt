@@ -19,8 +19,8 @@ diverged_in step.Diverged = 1
 diverged_in outcome = 0
 
 -- an instruction ended so, and left a divergence stack of so many entries
-abbrev pub counted : Step → ℕ → Tally → Tally
-counted outcome depth t = record {
+abbrev pub tally_after : Step → ℕ → Tally → Tally
+tally_after outcome depth t = record {
   instructions = more t.instructions 1;
   splits = more t.splits (splits_in outcome);
   diverged = more t.diverged (diverged_in outcome);

@@ -22,49 +22,53 @@ without set other = bit_and set (bit_not w32 other)
 abbrev pub is_running : (ℕ → WarpState) → ℕ → Bool
 is_running warps w = not (nat_eq (warps w).mask 0)
 
-abbrev pub running : CrewState → ℕ
-running s = lanes_below 16 (is_running s.warps)
+abbrev pub running_warps : CrewState → ℕ
+running_warps s = lanes_below 16 (is_running s.warps)
 
-abbrev pub waiting : CrewState → ℕ
-waiting s = all_waiting s.barriers
+abbrev pub waiting_warps : CrewState → ℕ
+waiting_warps s = all_waiting s.barriers
 
 -- the warps that can take a step
-abbrev pub ready : CrewState → ℕ
-ready s = without (running s) (waiting s)
+abbrev pub ready_warps : CrewState → ℕ
+ready_warps s = without (running_warps s) (waiting_warps s)
 
 -- the warps that were started and have ended
-abbrev pub ended : CrewState → ℕ
-ended s = without s.begun (running s)
+abbrev pub ended_warps : CrewState → ℕ
+ended_warps s = without s.begun (running_warps s)
 
 -- the warps of a set have started at an address, with lane 0 alone
 abbrev pub with_started : ℕ → ℕ → (ℕ → WarpState) → ℕ → WarpState
 with_started set pc warps = λ w. if has_lane set w then started pc 1 else warps w
 
+-- one warp of all is another
+abbrev pub with_one : ℕ → WarpState → (ℕ → WarpState) → ℕ → WarpState
+with_one warp moved warps = λ w. if nat_eq w warp then moved else warps w
+
 -- a group begins: warp 0 alone is started, at the first word of the code, and no warp waits
 abbrev pub opening : CrewState
 opening = record { warps = with_started 1 code_start (λ w. started 0 0); begun = 1; barriers = replicate 16 0 }
 
--- a warp stands so
-abbrev pub with_warp : ℕ → WarpState → (ℕ → WarpState) → ℕ → WarpState
-with_warp warp moved warps = λ w. if nat_eq w warp then moved else warps w
+-- one warp stands so, and the others as before
+abbrev pub with_warp : ℕ → WarpState → CrewState → CrewState
+with_warp warp moved s = record { warps = with_one warp moved s.warps; begun = s.begun; barriers = s.barriers }
 
 -- whether a `wspawn` that names so many warps starts this one: it is above 0 and has ended or was not started
 abbrev pub is_spawned : ℕ → (ℕ → WarpState) → ℕ → Bool
 is_spawned count warps w = nat_lt 0 w && (nat_lt w count && not (is_running warps w))
 
-abbrev pub spawned_set : ℕ → (ℕ → WarpState) → ℕ
-spawned_set count warps = lanes_below 16 (is_spawned count warps)
+abbrev pub spawned_warps : ℕ → (ℕ → WarpState) → ℕ
+spawned_warps count warps = lanes_below 16 (is_spawned count warps)
 
 -- those warps begin at its address
-abbrev pub spawned : ℕ → ℕ → CrewState → CrewState
-spawned count pc s = record {
-  warps = with_started (spawned_set count s.warps) pc s.warps;
-  begun = bit_or s.begun (spawned_set count s.warps);
+abbrev pub with_spawned : ℕ → ℕ → CrewState → CrewState
+with_spawned count pc s = record {
+  warps = with_started (spawned_warps count s.warps) pc s.warps;
+  begun = bit_or s.begun (spawned_warps count s.warps);
   barriers = s.barriers;
 }
 
 -- what the end of an instruction of a warp makes of the others, where the core has so many warps
-abbrev pub done : ℕ → ℕ → Step → CrewState → CrewState
-done warps warp (step.Wait bar count) s = record { warps = s.warps; begun = s.begun; barriers = barriers_after s.barriers bar warp count }
-done warps warp (step.Spawn count pc) s = spawned (min count warps) pc s
-done warps warp outcome s = s
+abbrev pub crew_after : ℕ → ℕ → Step → CrewState → CrewState
+crew_after warps warp (step.Wait bar count) s = record { warps = s.warps; begun = s.begun; barriers = barriers_after s.barriers bar warp count }
+crew_after warps warp (step.Spawn count pc) s = with_spawned (min count warps) pc s
+crew_after warps warp outcome s = s

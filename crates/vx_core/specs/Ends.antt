@@ -7,7 +7,7 @@ use Rattle.vx_isa.specs.declared.warps.MachineTrap.TheVariants.{Break}
 use Rattle.vx_isa.specs.declared.warps.Step.{Step}
 use Rattle.vx_isa.specs.declared.warps.Step.TheVariants as step
 use Rattle.vx_base.specs.declared.types.Pos.{Pos}
-use Rattle.vx_core.specs.Crews.{CrewState, ended, ready, running, waiting}
+use Rattle.vx_core.specs.Crews.{CrewState, ended_warps, ready_warps, running_warps, waiting_warps}
 use Rattle.vx_core.specs.declared.end.GroupEnd.{GroupEnd}
 use Rattle.vx_core.specs.declared.end.GroupEnd.TheVariants.{Trapped, Machine, Finished, Stuck}
 use Rattle.vx_core.specs.declared.job.GroupJob.{GroupJob}
@@ -36,8 +36,8 @@ end_of_trap sites fault warp pc item = Machine fault warp
 
 abbrev pub end_without_trap : CrewState → Option GroupEnd
 end_without_trap s =
-    if nat_eq (running s) 0 then Some Finished
-    else if nat_eq (ready s) 0 then Some (Stuck (waiting s) (ended s))
+    if nat_eq (running_warps s) 0 then Some Finished
+    else if nat_eq (ready_warps s) 0 then Some (Stuck (waiting_warps s) (ended_warps s))
     else None
 
 -- the item of a lane

@@ -4,7 +4,10 @@ use Rattle.std.specs.Prelude.{◌≡◌, ℕ, ◌+◌, ◌-◌, ◌*◌, ◌/◌
 use Rattle.vx_base.specs.Bytes.{bytes_of, field_of, with_field}
 use Rattle.vx_base.specs.declared.types.Size.{Size}
 use Rattle.vx_base.specs.declared.types.Size.TheVariants.{One, Two, Four}
-use Rattle.vx_isa.specs.WarpSteps.{Access, Reads, Writes, Fields}
+use Rattle.vx_isa.specs.Warps.{WarpState}
+use Rattle.vx_isa.specs.WarpSteps.{Access, Fields, Reads, Takes, Writes, warp_step}
+use Rattle.vx_isa.specs.declared.warps.Ids.{Ids}
+use Rattle.vx_isa.specs.declared.warps.Step.{Step}
 use Rattle.memory_banks.specs.declared.entry.BusEntry.{BusEntry}
 use Rattle.l1_cache.specs.Lines.{Lines, ReadsField, WritesField}
 use Rattle.vx_core.specs.declared.place.Place.{Place}
@@ -107,3 +110,8 @@ WritesAt acts number banks place.Outside p size value q = ⊥
 abbrev pub Reaches : {B E : Type 0} → (B → BusEntry → B → Type 0) → (E → ℕ → ℕ → ℕ → ℕ → E → Type 0) → ℕ → ℕ → ℕ → Reach B E → Access → Reach B E → Type 0
 Reaches acts evicts words number banks p (Reads address size answer) q = ReadsAt acts evicts number banks (place_at words address size) p size answer q
 Reaches acts evicts words number banks p (Writes address size value) q = WritesAt acts number banks (place_at words address size) p size value q
+
+-- A warp takes an instruction of the code, of which the accesses act on what the lanes reach.
+abbrev pub TakesInstruction : {B E : Type 0} → (B → BusEntry → B → Type 0) → (E → ℕ → ℕ → ℕ → ℕ → E → Type 0) → ℕ → ℕ → ℕ → Ids → List ℕ → WarpState → Reach B E → Step → WarpState → Reach B E → Type 0
+TakesInstruction acts evicts words number banks ids code w p outcome w' q =
+    Takes (Reaches acts evicts words number banks) (λ answers. warp_step (fields words) ids code answers w) p outcome w' q

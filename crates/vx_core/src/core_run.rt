@@ -1,9 +1,8 @@
 ghost use Rattle.std.specs.Prelude.{◌≡◌, ◌≢◌, ◌+◌, ◌*◌, ◌%◌, ◌^◌, ◌<◌, ◌≤◌, IfOk, None, length};
-ghost use Rattle.vx_isa.specs.WarpSteps.{Takes, warp_step};
-ghost use Rattle.vx_core.specs.Blocks.{cleared, with_block};
-ghost use Rattle.vx_core.specs.Crews.{opening, ready, with_warp};
+ghost use Rattle.vx_core.specs.Blocks.{with_zeros, with_block};
+ghost use Rattle.vx_core.specs.Crews.{opening, ready_warps, with_warp};
 ghost use Rattle.vx_core.specs.Ends.{bar_of, lane_of};
-ghost use Rattle.vx_core.specs.Places.{Reaches, fields};
+ghost use Rattle.vx_core.specs.Places.{TakesInstruction};
 
 use crate::counts::{BANKS, CoreCounts, Tally};
 use crate::crew::Crew;
@@ -81,7 +80,10 @@ impl Core {
         }
     }
 
-    /// Runs a group to its end, or until it has taken `turns` instructions. The bus has a whole number of cache lines.
+    /// Runs a group to its end, or until it has taken `turns` instructions. It takes no memory.
+    ///
+    /// A warp has at most 32 lanes, at most the 1,048,576 bytes of the scratchpad are cleared, and the numbers of all items are
+    /// below 2^32. The bus has a whole number of cache lines.
     pub fn run_group<B: Bus, P: Picker, E: Evictor>(
         &mut self,
         image: &Image,
@@ -95,7 +97,8 @@ impl Core {
         requires clear { job.now.clear ≤ 1048576 }
         requires lanes { job.now.lanes ≤ 32 }
         requires items { job.now.group * job.now.local + 512 < 2 ^ 32 }
-        ensures runs { RunsGroup B.acts E.evicts P.begins P.picks (setting_of self.old (B.count bus.old) (B.number bus.old) image.now job.now) (core_state self.old bus.old evict.old pick.old) result (core_state self.new bus.new evict.new pick.new) }
+        ensures runs { RunsGroup B.acts E.evicts P.begins P.picks (setting_of self.old (B.count bus.old) (B.number bus.old) image.now job.now)
+            (core_state self.old bus.old evict.old pick.old) result (core_state self.new bus.new evict.new pick.new) }
         ensures same_core { KeepsNumbers self.old self.new }
         ensures sound { B.is_sound bus.new }
         ensures same_bus { (B.count bus.new ≡ B.count bus.old) × (B.number bus.new ≡ B.number bus.old) }
@@ -114,7 +117,7 @@ impl Core {
     fn begin_group(&mut self, job: &GroupJob)
         requires clear { job.now.clear ≤ 1048576 }
         ensures crew { core_crew self.new ≡ opening }
-        ensures scratch { self.new.scratch ≡ with_block job.now.block (cleared job.now.clear self.old.scratch) }
+        ensures scratch { self.new.scratch ≡ with_block job.now.block (with_zeros job.now.clear self.old.scratch) }
         ensures rest { (self.new.cache ≡ self.old.cache) × (self.new.steps ≡ self.old.steps) × (self.new.tally ≡ self.old.tally) }
         ensures same_core { KeepsNumbers self.old self.new }
     {
@@ -132,13 +135,14 @@ impl Core {
         pick: &mut P,
         evict: &mut E,
     ) -> Option<GroupEnd>
-        requires ready { ready (core_crew self.old) ≢ 0 }
+        requires ready { ready_warps (core_crew self.old) ≢ 0 }
         requires sound { B.is_sound bus.old }
         requires lines { B.count bus.old % 16 ≡ 0 }
         requires lanes { job.now.lanes ≤ 32 }
         requires items { job.now.group * job.now.local + 512 < 2 ^ 32 }
-        ensures steps { StepsOnce B.acts E.evicts P.picks (setting_of self.old (B.count bus.old) (B.number bus.old) image.now job.now) (core_state self.old bus.old evict.old pick.old) result (core_state self.new bus.new evict.new pick.new) }
-        ensures ready { (result ≡ None) → ready (core_crew self.new) ≢ 0 }
+        ensures steps { StepsOnce B.acts E.evicts P.picks (setting_of self.old (B.count bus.old) (B.number bus.old) image.now job.now)
+            (core_state self.old bus.old evict.old pick.old) result (core_state self.new bus.new evict.new pick.new) }
+        ensures ready { (result ≡ None) → ready_warps (core_crew self.new) ≢ 0 }
         ensures same_core { KeepsNumbers self.old self.new }
         ensures sound { B.is_sound bus.new }
         ensures same_bus { (B.count bus.new ≡ B.count bus.old) × (B.number bus.new ≡ B.number bus.old) }
@@ -163,8 +167,9 @@ impl Core {
         requires active { ((core_crew self.old).warps warp).mask ≢ 0 }
         requires sound { B.is_sound bus.old }
         requires lines { B.count bus.old % 16 ≡ 0 }
-        ensures took { Takes (Reaches B.acts E.evicts (B.count bus.old) (B.number bus.old) (banks_of self.old)) (λ answers. warp_step (fields (B.count bus.old)) (record { core = number_of self.old; warp = warp; lanes = job.now.lanes }) image.now.words answers ((core_crew self.old).warps warp)) (core_reach self.old bus.old evict.old) result ((core_crew self.new).warps warp) (core_reach self.new bus.new evict.new) }
-        ensures crew { core_crew self.new ≡ record (core_crew self.old) { warps = with_warp warp ((core_crew self.new).warps warp) (core_crew self.old).warps } }
+        ensures took { TakesInstruction B.acts E.evicts (B.count bus.old) (B.number bus.old) (banks_of self.old) (record { core = number_of self.old; warp = warp; lanes = job.now.lanes }) image.now.words
+            ((core_crew self.old).warps warp) (core_reach self.old bus.old evict.old) result ((core_crew self.new).warps warp) (core_reach self.new bus.new evict.new) }
+        ensures crew { core_crew self.new ≡ with_warp warp ((core_crew self.new).warps warp) (core_crew self.old) }
         ensures lane { lane_of result ≤ 32 }
         ensures bar { bar_of result < 16 }
         ensures tally { tally_of self.new ≡ tally_of self.old }
@@ -190,10 +195,10 @@ impl Core {
 }
 
 // Sets the bytes of a scratchpad below a place to 0.
-#[tactic(auto, unfolding(crate::specs::Blocks::cleared))]
+#[tactic(auto, unfolding(crate::specs::Blocks::with_zeros))]
 fn clear_below(scratch: &mut Scratch, end: u32)
     requires { end ≤ BYTES }
-    ensures { scratch.new ≡ cleared end scratch.old }
+    ensures { scratch.new ≡ with_zeros end scratch.old }
 {
     scratch.clear_to(end);
 }

@@ -1,5 +1,5 @@
 ghost use Rattle.std.specs.Prelude.{◌≡◌};
-ghost use Rattle.vx_core.specs.Counting.{counted, diverged_in, no_tally, splits_in};
+ghost use Rattle.vx_core.specs.Counting.{tally_after, diverged_in, no_tally, splits_in};
 
 use vx_isa::Step;
 
@@ -53,7 +53,7 @@ impl Tally {
 
     /// An instruction ended so, and left a divergence stack of so many entries.
     pub fn add(&mut self, outcome: Step, depth: u32)
-        ensures { self.new ≡ counted outcome depth self.old }
+        ensures { self.new ≡ tally_after outcome depth self.old }
     {
         self.instructions = self.instructions.saturating_add(1);
         self.splits = self.splits.saturating_add(splits_in(outcome));

@@ -1,10 +1,9 @@
 ghost use Rattle.std.specs.Prelude.{◌≡◌, ◌≢◌, ◌%◌, ◌^◌, ◌<◌, ◌≤◌, length, true};
 ghost use Rattle.vx_isa.specs.Warps.{has_lane, lanes_below, started};
-ghost use Rattle.vx_isa.specs.WarpSteps.{Takes, warp_step};
 ghost use Rattle.vx_core.specs.CoreMemory.{KeepsLoans, reach_of};
-ghost use Rattle.vx_core.specs.Crews.{done, ended, is_running, is_spawned, opening, ready, running, spawned, spawned_set, waiting, with_started, with_warp, without};
+ghost use Rattle.vx_core.specs.Crews.{crew_after, ended_warps, is_running, is_spawned, opening, ready_warps, running_warps, with_spawned, spawned_warps, waiting_warps, with_started, with_warp, without};
 ghost use Rattle.vx_core.specs.Ends.{bar_of, lane_of};
-ghost use Rattle.vx_core.specs.Places.{Reaches, fields};
+ghost use Rattle.vx_core.specs.Places.{TakesInstruction};
 ghost use Rattle.vx_core.specs.WarpLists.{warps_of};
 ghost use Rattle.warp_state.specs.Lanes.{state_of};
 
@@ -61,42 +60,42 @@ impl Crew {
     }
 
     /// The warps that have not ended, as bits.
-    pub fn running(&self) -> u32
-        ensures { result ≡ running (crew_of self.now) }
+    pub fn running_warps(&self) -> u32
+        ensures { result ≡ running_warps (crew_of self.now) }
     {
         running_in(&self.warps)
     }
 
     /// The warps that wait at barriers, as bits.
-    pub fn waiting(&self) -> u32
-        ensures { result ≡ waiting (crew_of self.now) }
+    pub fn waiting_warps(&self) -> u32
+        ensures { result ≡ waiting_warps (crew_of self.now) }
     {
         self.barriers.waiting()
     }
 
     /// The warps that can take a step, as bits.
-    pub fn ready(&self) -> u32
-        ensures { result ≡ ready (crew_of self.now) }
+    pub fn ready_warps(&self) -> u32
+        ensures { result ≡ ready_warps (crew_of self.now) }
     {
-        self.running() & !self.barriers.waiting()
+        self.running_warps() & !self.barriers.waiting()
     }
 
     /// A ready warp, by a policy.
     pub fn pick<P: Picker>(&self, policy: &mut P) -> u32
-        requires { ready (crew_of self.now) ≢ 0 }
-        ensures picks { P.picks policy.old (ready (crew_of self.now)) result policy.new }
-        ensures ready { has_lane (ready (crew_of self.now)) result ≡ true }
+        requires { ready_warps (crew_of self.now) ≢ 0 }
+        ensures picks { P.picks policy.old (ready_warps (crew_of self.now)) result policy.new }
+        ensures ready { has_lane (ready_warps (crew_of self.now)) result ≡ true }
         ensures warp { result < 16 }
         ensures active { ((crew_of self.now).warps result).mask ≢ 0 }
     {
-        policy.pick(self.ready())
+        policy.pick(self.ready_warps())
     }
 
     /// The warps that were started and have ended, as bits.
-    pub fn ended(&self) -> u32
-        ensures { result ≡ ended (crew_of self.now) }
+    pub fn ended_warps(&self) -> u32
+        ensures { result ≡ ended_warps (crew_of self.now) }
     {
-        self.started & !self.running()
+        self.started & !self.running_warps()
     }
 
     /// How many entries a warp's divergence stack has.
@@ -119,8 +118,9 @@ impl Crew {
         requires sound { B.is_sound memory.old.bus.now }
         requires lines { B.count memory.old.bus.now % 16 ≡ 0 }
         requires banks { (1 ≤ memory.old.banks) × (memory.old.banks ≤ 16) }
-        ensures took { Takes (Reaches B.acts E.evicts (B.count memory.old.bus.now) (B.number memory.old.bus.now) memory.old.banks) (λ answers. warp_step (fields (B.count memory.old.bus.now)) ids code.now answers ((crew_of self.old).warps ids.warp)) (reach_of memory.old) result ((crew_of self.new).warps ids.warp) (reach_of memory.new) }
-        ensures crew { crew_of self.new ≡ record (crew_of self.old) { warps = with_warp ids.warp ((crew_of self.new).warps ids.warp) (crew_of self.old).warps } }
+        ensures took { TakesInstruction B.acts E.evicts (B.count memory.old.bus.now) (B.number memory.old.bus.now) memory.old.banks ids code.now
+            ((crew_of self.old).warps ids.warp) (reach_of memory.old) result ((crew_of self.new).warps ids.warp) (reach_of memory.new) }
+        ensures crew { crew_of self.new ≡ with_warp ids.warp ((crew_of self.new).warps ids.warp) (crew_of self.old) }
         ensures lane { lane_of result ≤ 32 }
         ensures bar { bar_of result < 16 }
         ensures kept { KeepsLoans B.count B.number memory.old memory.new }
@@ -133,7 +133,7 @@ impl Crew {
     pub fn finish(&mut self, most: u32, warp: u32, outcome: Step)
         requires warp { warp < 16 }
         requires barrier { bar_of outcome < 16 }
-        ensures { crew_of self.new ≡ done most warp outcome (crew_of self.old) }
+        ensures { crew_of self.new ≡ crew_after most warp outcome (crew_of self.old) }
     {
         match outcome {
             Step::Wait { bar, count } => {
@@ -146,7 +146,7 @@ impl Crew {
 
     // The warps from 1 to `count` - 1 that have ended or were not started begin at an address with lane 0 alone.
     fn spawn(&mut self, count: u32, pc: u32)
-        ensures { crew_of self.new ≡ spawned count pc (crew_of self.old) }
+        ensures { crew_of self.new ≡ with_spawned count pc (crew_of self.old) }
     {
         let set = spawned_in(&self.warps, count);
         start_warps(&mut self.warps, set, pc);
@@ -217,7 +217,7 @@ fn is_spawned(warps: &[Warp], count: u32, warp: u32) -> bool
 // The warps that a `wspawn` with a count starts, as bits.
 fn spawned_in(warps: &[Warp], count: u32) -> u32
     requires { length warps.now ≡ 16 }
-    ensures { result ≡ spawned_set count (warps_of warps.now) }
+    ensures { result ≡ spawned_warps count (warps_of warps.now) }
 {
     let mut set = 0;
     for warp in 0..WARPS {
@@ -239,7 +239,8 @@ fn step_on<B: Bus, E: Evictor>(
     requires sound { B.is_sound memory.old.bus.now }
     requires lines { B.count memory.old.bus.now % 16 ≡ 0 }
     requires banks { (1 ≤ memory.old.banks) × (memory.old.banks ≤ 16) }
-    ensures took { Takes (Reaches B.acts E.evicts (B.count memory.old.bus.now) (B.number memory.old.bus.now) memory.old.banks) (λ answers. warp_step (fields (B.count memory.old.bus.now)) ids code.now answers (state_of warp.old)) (reach_of memory.old) result (state_of warp.new) (reach_of memory.new) }
+    ensures took { TakesInstruction B.acts E.evicts (B.count memory.old.bus.now) (B.number memory.old.bus.now) memory.old.banks ids code.now
+        (state_of warp.old) (reach_of memory.old) result (state_of warp.new) (reach_of memory.new) }
     ensures lane { lane_of result ≤ 32 }
     ensures bar { bar_of result < 16 }
     ensures kept { KeepsLoans B.count B.number memory.old memory.new }

@@ -1,6 +1,6 @@
 ghost use Rattle.std.specs.Prelude.{◌≡◌, ◌≢◌, ◌+◌, ◌*◌, ◌^◌, ◌<◌, ◌≤◌, None, option_map};
 ghost use Rattle.vx_core.specs.Ends.{end_after, end_of_break, end_of_trap, end_without_trap, lane_of, site_at};
-ghost use Rattle.vx_core.specs.Crews.{ready};
+ghost use Rattle.vx_core.specs.Crews.{ready_warps};
 ghost use Rattle.vx_core.specs.Cores.{crew_of};
 
 use crate::crew::{CODE_START, Crew};
@@ -23,7 +23,7 @@ pub fn end_after(
     requires lane { lane_of outcome ≤ 32 }
     requires items { job.now.group * job.now.local + 512 < 2 ^ 32 }
     ensures end { result ≡ end_after sites.now job.now warp outcome (crew_of crew.now) }
-    ensures ready { (result ≡ None) → ready (crew_of crew.now) ≢ 0 }
+    ensures ready { (result ≡ None) → ready_warps (crew_of crew.now) ≢ 0 }
 {
     match outcome {
         Step::Trap { fault, lane, pc } => {
@@ -37,15 +37,15 @@ pub fn end_after(
 // How the group ends behind an instruction that has not trapped.
 fn end_without_trap(crew: &Crew) -> Option<GroupEnd>
     ensures end { result ≡ end_without_trap (crew_of crew.now) }
-    ensures ready { (result ≡ None) → ready (crew_of crew.now) ≢ 0 }
+    ensures ready { (result ≡ None) → ready_warps (crew_of crew.now) ≢ 0 }
 {
-    if crew.running() == 0 {
+    if crew.running_warps() == 0 {
         return Some(GroupEnd::Finished);
     }
-    if crew.ready() == 0 {
+    if crew.ready_warps() == 0 {
         return Some(GroupEnd::Stuck {
-            waiting: crew.waiting(),
-            ended: crew.ended(),
+            waiting: crew.waiting_warps(),
+            ended: crew.ended_warps(),
         });
     }
     None

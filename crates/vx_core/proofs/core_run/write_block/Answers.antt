@@ -1,4 +1,4 @@
-use Rattle.std.proofs.Common.{◌≡◌, ℕ, ◌+◌, ◌*◌, ◌<◌, ◌≤◌, Bool, true, false, List, get_or, ap, ◌∙◌, arith, refl}
+use Rattle.std.proofs.Common.{ℕ, ◌*◌, Bool, true, false, List, get_or, ap, ◌∙◌, arith, refl}
 use Rattle.std.specs.Prelude.{MatchBool}
 use Rattle.vx_base.specs.Bytes.{with_field}
 use Rattle.vx_core.proofs.BlockLaws.{block_below-more}

@@ -1,6 +1,6 @@
 use Rattle.std.proofs.Common.{◌≡◌, ℕ, length, ap, ◌∙◌, subst, arith}
 use Rattle.vx_isa.specs.Warps.{WarpState}
-use Rattle.vx_core.specs.Crews.{with_warp}
+use Rattle.vx_core.specs.Crews.{with_one}
 use Rattle.vx_core.specs.WarpLists.{warps_of}
 use Rattle.vx_core.proofs.WarpLaws.{warps_of-set, ended_below, ended_below-more, ended_below-all}
 use Rattle.vx_core.proofs.crew.end_all.Goals as goal
@@ -10,7 +10,7 @@ loop-warp-preserved c =
     let k = c.loop-warp.warp-index in
     let now = warps_of c.loop-warp.warps in
     warps_of-set c.loop-warp.warps k c.start.new.self (omega arith)
-    ∙ ap (λ (w : WarpState). with_warp k w now) c.start.ensures
+    ∙ ap (λ (w : WarpState). with_one k w now) c.start.ensures
     ∙ ended_below-more k (warps_of c.args.warps.now) now c.loop-warp.invariant
 
 pub returns : goal.returns

@@ -1,7 +1,7 @@
-use Rattle.std.proofs.Common.{◌≡◌, ℕ, true, false, sym, ap, ◌∙◌, subst, arith}
+use Rattle.std.proofs.Common.{◌≡◌, ℕ, true, false, ap, ◌∙◌, subst, arith}
 use Rattle.std.proofs.lemmas.List.{set-get_or}
 use Rattle.vx_isa.specs.Warps.{WarpState, has_lane}
-use Rattle.vx_core.specs.Crews.{with_warp}
+use Rattle.vx_core.specs.Crews.{with_one}
 use Rattle.vx_core.specs.WarpLists.{warps_of}
 use Rattle.vx_core.proofs.WarpLaws.{warps_of-set, started_below, started_below-more, started_below-same, started_below-all}
 use Rattle.vx_core.proofs.crew.start_warps.Goals as goal
@@ -16,7 +16,7 @@ loop-number-preserved c =
           let is_in : has_lane c.args.set k ≡ true = cc in
           ap warps_of w.warps-is
           ∙ warps_of-set c.loop-number.warps k w.start.new.self (omega arith)
-          ∙ ap (λ (v : WarpState). with_warp k v now) w.start.ensures
+          ∙ ap (λ (v : WarpState). with_one k v now) w.start.ensures
           ∙ started_below-more k c.args.set c.args.pc (warps_of c.args.warps.now) now c.loop-number.invariant is_in
       | else-has_warp w ↦
           let not_in : has_lane c.args.set k ≡ false = cc in

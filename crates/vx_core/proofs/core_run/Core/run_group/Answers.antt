@@ -1,4 +1,4 @@
-use Rattle.std.proofs.Common.{◌≡◌, ℕ, ◌%◌, Option, None, add-one, ap, ◌∙◌, subst, arith}
+use Rattle.std.proofs.Common.{ℕ, ◌%◌, Option, add-one, ap, ◌∙◌, subst, arith}
 use Rattle.vx_core.specs.CoreSteps.{StepsOnce}
 use Rattle.vx_core.specs.Cores.{core_state, setting_of}
 use Rattle.vx_core.specs.declared.end.GroupEnd.{GroupEnd}

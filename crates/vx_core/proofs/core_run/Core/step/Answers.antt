@@ -1,7 +1,7 @@
 use Rattle.std.proofs.Common.{ℕ, length, ap, ◌∙◌}
 use Rattle.vx_core.specs.Cores.{core_crew}
-use Rattle.vx_core.specs.Counting.{counted}
-use Rattle.vx_core.specs.Crews.{CrewState, done}
+use Rattle.vx_core.specs.Counting.{tally_after}
+use Rattle.vx_core.specs.Crews.{CrewState, crew_after}
 use Rattle.vx_core.specs.declared.counts.Tally.{Tally}
 use Rattle.vx_core.proofs.core_run.Core.step.Goals as goal
 
@@ -43,8 +43,8 @@ returns-clause-steps g c =
       outcome = outcome;
       moved = (core_crew stepped).warps warp;
       took = c.step_warp-outcome.ensures.took;
-      crew_is = c.finish.ensures ∙ ap (λ (s : CrewState). done c.args.job.now.warps warp outcome s) c.step_warp-outcome.ensures.crew;
-      tally_is = c.add.ensures ∙ ap (λ (n : ℕ). counted outcome n stepped.tally) c.depth.ensures ∙ ap (λ (t : Tally). counted outcome (length stack) t) c.step_warp-outcome.ensures.tally;
+      crew_is = c.finish.ensures ∙ ap (λ (s : CrewState). crew_after c.args.job.now.warps warp outcome s) c.step_warp-outcome.ensures.crew;
+      tally_is = c.add.ensures ∙ ap (λ (n : ℕ). tally_after outcome n stepped.tally) c.depth.ensures ∙ ap (λ (t : Tally). tally_after outcome (length stack) t) c.step_warp-outcome.ensures.tally;
       end_is = c.end_after.ensures.end;
     }
 
