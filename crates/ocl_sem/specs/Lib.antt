@@ -3,3 +3,4 @@ pub mod Settings
 pub mod Tasks
 pub mod Source
 pub mod Items
+pub mod Views

@@ -142,6 +142,11 @@ abbrev mutual
   args_tasks program scope variable params (ArrayArg array more) ts =
       args_tasks program scope (behind (first_kind params) variable) (other_params params) more ts
 
+-- a call by its number in the table of calls
+abbrev pub call_at : List FunctionNode → Scope → ℕ → ArgNodes → List SourceTask → List SourceTask
+call_at program scope call args ts =
+    call_tasks scope (site_of scope call) (callee_of program (site_of scope call)) args (λ variable params. args_tasks program scope variable params args) ts
+
 -- ---- statements
 
 -- the right side of an assignment; of `++` and `--` it is 1
