@@ -1,1 +1,2 @@
 mod WorkedItems
+pub mod Unfolding

@@ -1,20 +1,14 @@
 -- Which state of the machine the code's state is.
-use Rattle.std.specs.Prelude.{◌≡◌, ℕ, List, [], ◌∷◌, map, Option, Some}
-use Rattle.vx_base.specs.declared.types.ParamKind.{ParamKind}
-use Rattle.vx_base.specs.declared.types.ParamKind.TheVariants.{Scalar}
-use Rattle.std.specs.Option.{option_map}
-use Rattle.ocl_program.specs.Nodes.{FunctionNode, BlockNode, arg_nodes}
+use Rattle.std.specs.Prelude.{◌≡◌, List, [], ◌∷◌, map, None, Some}
+use Rattle.ocl_program.specs.declared.exprs.ArrayRef.{ArrayRef}
+use Rattle.ocl_program.specs.declared.exprs.ArrayRef.TheVariants.{Parameter}
+use Rattle.ocl_program.specs.Nodes.{FunctionNode, StmtNode, IfNode, IfElseNode, WhileNode, DoNode, ForNode, BlockNode, NoStmts, ArgNode, ValueNode, ArrayNode, arg_nodes}
 use Rattle.ocl_program.specs.Shapes.{node_of, argument_node, stmt_node, typed_stmts, function_node}
 use Rattle.ocl_sem.specs.declared.scopes.Scope.{Scope as HeldScope}
-use Rattle.ocl_sem.specs.declared.tasks.Loop.{Loop as HeldLoop}
 use Rattle.ocl_sem.specs.declared.tasks.Task.{Task as HeldTask}
 use Rattle.ocl_sem.specs.declared.tasks.Task.TheVariants as held
-use Rattle.ocl_sem.specs.Source.{Scope, PlacedExpr, PlacedStmt, SourceTask, SourceLoop, scope_at}
+use Rattle.ocl_sem.specs.Source.{Scope, PlacedExpr, PlacedStmt, SourceTask, SourceLoop, array_in, loop_in, scope_at, value_tasks}
 use Rattle.ocl_sem.specs.Tasks as task
-
--- the functions of the file
-abbrev pub program_of : HeldScope → List FunctionNode
-program_of s = map function_node s.functions.now
 
 -- the active call
 abbrev pub scope_of : HeldScope → Scope
@@ -25,12 +19,18 @@ scope_of s = record {
   arrays = s.arrays.items;
 }
 
-abbrev pub loop_of : Scope → HeldLoop → SourceLoop
-loop_of scope loop = record {
-  test = option_map (λ e. record { scope = scope; expr = node_of e.now }) loop.test;
-  step = record { scope = scope; stmt = BlockNode (typed_stmts loop.step.now) };
-  body = record { scope = scope; stmt = stmt_node loop.body.now };
-}
+-- the loop that a statement is
+abbrev pub loop_of : Scope → StmtNode → SourceLoop
+loop_of scope (WhileNode test body) = loop_in scope (Some test) (BlockNode NoStmts) body
+loop_of scope (DoNode body test) = loop_in scope (Some test) (BlockNode NoStmts) body
+loop_of scope (ForNode first test step body) = loop_in scope test (BlockNode step) body
+loop_of scope other = loop_in scope None (BlockNode NoStmts) other
+
+-- the branches of an `if`
+abbrev pub branch_of : Scope → StmtNode → SourceTask
+branch_of scope (IfNode test one) = task.Branch (record { scope = scope; stmt = one }) None
+branch_of scope (IfElseNode test one other) = task.Branch (record { scope = scope; stmt = one }) (Some (record { scope = scope; stmt = other }))
+branch_of scope other = task.Discard
 
 -- a task of an active call
 abbrev pub task_of : Scope → HeldTask → SourceTask
@@ -51,14 +51,14 @@ task_of scope (held.Clear k) = task.Clear k
 task_of scope (held.Assign k elem) = task.Assign k elem
 task_of scope held.Discard = task.Discard
 task_of scope (held.Wait site) = task.Wait site
-task_of scope (held.Branch one other) = task.Branch (record { scope = scope; stmt = stmt_node one.now }) (option_map (λ s. record { scope = scope; stmt = stmt_node s.now }) other)
+task_of scope (held.Branch stmt) = branch_of scope (stmt_node stmt.now)
 task_of scope held.Enter = task.Enter
-task_of scope (held.Decide loop) = task.Decide (loop_of scope loop)
-task_of scope (held.Begin loop) = task.Begin (loop_of scope loop)
-task_of scope (held.Again loop) = task.Again (loop_of scope loop)
-task_of scope (held.Invoke site callee args) = task.Invoke (record {
-  scope = scope_at scope site (function_node callee.now) (arg_nodes (map argument_node args.now));
-  stmt = BlockNode (typed_stmts callee.now.body.items);
+task_of scope (held.Decide loop) = task.Decide (loop_of scope (stmt_node loop.now))
+task_of scope (held.Begin loop) = task.Begin (loop_of scope (stmt_node loop.now))
+task_of scope (held.Again loop) = task.Again (loop_of scope (stmt_node loop.now))
+task_of scope (held.Invoke callee args) = task.Invoke (record {
+  scope = scope_at scope callee.site (function_node callee.function.now) (arg_nodes (map argument_node args.now));
+  stmt = BlockNode (typed_stmts callee.function.now.body.items);
 })
 task_of scope held.Break = task.Break
 task_of scope held.Continue = task.Continue
@@ -73,7 +73,17 @@ tasks_onto scope (t ∷ ts) rest = task_of scope t ∷ tasks_onto scope ts rest
 abbrev pub Puts : Scope → List HeldTask → List HeldTask → (List SourceTask → List SourceTask) → Type 0
 Puts scope before after f = (rest : List SourceTask) → tasks_onto scope after rest ≡ f (tasks_onto scope before rest)
 
--- what is done with a value that is bound to a parameter of this kind
-abbrev pub binding : Option ParamKind → ℕ → HeldTask
-binding (Some (Scalar elem)) variable = held.Assign variable elem
-binding kind variable = held.Discard
+-- what an argument names of the arrays of the kernel
+abbrev pub array_named : Scope → ArgNode → ArrayRef
+array_named scope (ValueNode e) = Parameter 0
+array_named scope (ArrayNode array) = array_in scope array
+
+-- the value of one argument, where it is one
+abbrev pub argument_tasks : List FunctionNode → Scope → ArgNode → List SourceTask → List SourceTask
+argument_tasks program scope (ValueNode e) ts = value_tasks program scope e ts
+argument_tasks program scope (ArrayNode array) ts = ts
+
+-- the same, and then what is done with the value
+abbrev pub bound_tasks : List FunctionNode → Scope → SourceTask → ArgNode → List SourceTask → List SourceTask
+bound_tasks program scope bound (ValueNode e) ts = value_tasks program scope e (bound ∷ ts)
+bound_tasks program scope bound (ArrayNode array) ts = ts

@@ -10,3 +10,4 @@ pub mod scopes;
 pub mod settings;
 pub mod stack;
 pub mod tasks;
+pub mod unfold;

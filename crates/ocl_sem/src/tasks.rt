@@ -1,18 +1,8 @@
 //! What is left to do in an active call. Sub-trees that wait are borrowed from the program.
+use crate::scopes::Callee;
 use ocl_ast::{BinOp, UnOp};
-use ocl_program::{Argument, ArrayRef, Builtin, CallSite, TypedExpr, TypedFunction, TypedStmt};
+use ocl_program::{Argument, ArrayRef, Builtin, TypedExpr, TypedStmt};
 use vx_base::{Elem, Pos};
-
-/// A loop: its test, which holds where none is written, what runs behind each turn, and the turn.
-#[derive(Clone, Copy)]
-pub struct Loop<'a> {
-    /// What is tested before each turn but the first of a `do`.
-    pub test: Option<&'a TypedExpr>,
-    /// What runs behind each turn.
-    pub step: &'a [TypedStmt],
-    /// The turn.
-    pub body: &'a TypedStmt,
-}
 
 /// A task. Numbers of variables, barriers and arrays are those of the kernel.
 #[derive(Clone, Copy)]
@@ -86,27 +76,20 @@ pub enum Task<'a> {
     Discard,
     /// A barrier.
     Wait(u32),
-    /// One of two statements, by the value on top.
-    Branch {
-        /// What runs where the value is not 0.
-        one: &'a TypedStmt,
-        /// What runs where the value is 0.
-        other: Option<&'a TypedStmt>,
-    },
+    /// A branch of this `if`, by the value on top.
+    Branch(&'a TypedStmt),
     /// A loop is entered.
     Enter,
-    /// A turn begins where the value on top is not 0.
-    Decide(Loop<'a>),
-    /// A turn begins.
-    Begin(Loop<'a>),
-    /// A turn is over.
-    Again(Loop<'a>),
+    /// A turn of this loop begins where the value on top is not 0.
+    Decide(&'a TypedStmt),
+    /// A turn of this loop begins.
+    Begin(&'a TypedStmt),
+    /// A turn of this loop is over.
+    Again(&'a TypedStmt),
     /// The body of a helper.
     Invoke {
-        /// The call.
-        site: CallSite,
-        /// The helper.
-        callee: &'a TypedFunction,
+        /// The helper, with the place of the call.
+        callee: Callee<'a>,
         /// What its parameters are bound to.
         args: &'a [Argument],
     },

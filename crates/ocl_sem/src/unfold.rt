@@ -1,17 +1,18 @@
-//! Expressions and statements as tasks. A stack takes what is done last first.
-ghost use Rattle.std.specs.Prelude.{◌≡◌, ◌∷◌, None, OnOk, Some, map, option_map};
-ghost use Rattle.ocl_program.specs.Nodes.{BlockNode, NoStmts, arg_nodes};
-ghost use Rattle.ocl_program.specs.Shapes.{argument_node, function_node, node_of, stmt_node, typed_stmts};
-ghost use Rattle.ocl_sem.specs.Source.{args_tasks, assigned_tasks, behind as behind_of, call_at, declare_tasks, first_kind as first_kind_of, given_tasks, head_tasks, operand_tasks, other_params as other_params_of, return_tasks, stmt_tasks, stmts_tasks, value_tasks, values_tasks};
-ghost use Rattle.ocl_sem.specs.Views.{Puts, binding as binding_of, loop_of, program_of, scope_of};
+//! Expressions as tasks. A stack takes what is done last first.
+ghost use Rattle.std.specs.Prelude.{◌≡◌, ◌+◌, OnOk, count_by, map, option_map, take};
+ghost use Rattle.ocl_program.specs.Measures.{cut};
+ghost use Rattle.ocl_program.specs.Nodes.{arg_nodes};
+ghost use Rattle.ocl_program.specs.Shapes.{argument_node, function_node, node_of};
+ghost use Rattle.ocl_sem.specs.Source.{Scope as AnyScope, args_tasks, binding as binding_of, bound_as as bound_as_of, call_at, is_scalar as is_scalar_of, value_tasks, values_tasks, variable_in};
+ghost use Rattle.ocl_sem.specs.Views.{Puts, argument_tasks, bound_tasks, scope_of, task_of};
 
 use crate::scopes::Scope;
 use crate::stack::Stack;
-use crate::tasks::{Loop, Task};
-use ocl_ast::{AssignOp, BinOp, Gives, Param};
-use ocl_program::{Argument, CallSite, TypedExpr, TypedFunction, TypedStmt};
+use crate::tasks::Task;
+use ocl_ast::Param;
+use ocl_program::{Argument, CallSite, TypedExpr, TypedFunction};
 use std::alloc::AllocError;
-use vx_base::{Elem, ParamKind};
+use vx_base::ParamKind;
 
 /// The tasks of an active call.
 pub type Tasks<'a> = Stack<Task<'a>>;
@@ -20,17 +21,20 @@ pub type Tasks<'a> = Stack<Task<'a>>;
 #[cycle(unfold)]
 pub fn push_value<'a>(
     tasks: &mut Tasks<'a>,
+    program: &'a [TypedFunction],
     scope: &Scope<'a>,
     expr: &'a TypedExpr,
 ) -> Result<(), AllocError>
-    ensures { OnOk result (Puts (scope_of scope.now) tasks.old tasks.new (value_tasks (program_of scope.now) (scope_of scope.now) (node_of expr.now))) }
+    ensures { OnOk result (Puts (scope_of scope.now) tasks.old tasks.new (value_tasks (map function_node program.now) (scope_of scope.now) (node_of expr.now))) }
 {
     match expr {
         TypedExpr::Number { value, .. } => tasks.push(Task::Number(*value)),
-        TypedExpr::Variable { variable, .. } => tasks.push(Task::Variable(scope.variable(*variable))),
+        TypedExpr::Variable { variable, .. } => {
+            tasks.push(Task::Variable(scope.variable(*variable)))
+        }
         TypedExpr::Unary { op, part } => {
             tasks.push(Task::Unary(*op))?;
-            push_value(tasks, scope, part)
+            push_value(tasks, program, scope, part)
         }
         TypedExpr::Binary {
             op,
@@ -42,27 +46,27 @@ pub fn push_value<'a>(
                 op: *op,
                 unsigned: *unsigned,
             })?;
-            push_value(tasks, scope, right)?;
-            push_value(tasks, scope, left)
+            push_value(tasks, program, scope, right)?;
+            push_value(tasks, program, scope, left)
         }
         TypedExpr::Both { left, right } => {
             tasks.push(Task::AndThen(right))?;
-            push_value(tasks, scope, left)
+            push_value(tasks, program, scope, left)
         }
         TypedExpr::Either { left, right } => {
             tasks.push(Task::OrElse(right))?;
-            push_value(tasks, scope, left)
+            push_value(tasks, program, scope, left)
         }
         TypedExpr::Choose { test, yes, no, .. } => {
             tasks.push(Task::Choose {
                 one: yes,
                 other: no,
             })?;
-            push_value(tasks, scope, test)
+            push_value(tasks, program, scope, test)
         }
         TypedExpr::Cast { elem, part } => {
             tasks.push(Task::Fit(*elem))?;
-            push_value(tasks, scope, part)
+            push_value(tasks, program, scope, part)
         }
         TypedExpr::Load {
             array, place, pos, ..
@@ -71,9 +75,9 @@ pub fn push_value<'a>(
                 array: scope.array(*array),
                 pos: *pos,
             })?;
-            push_value(tasks, scope, place)
+            push_value(tasks, program, scope, place)
         }
-        TypedExpr::Call { call, args } => push_call(tasks, scope, *call, args.as_slice()),
+        TypedExpr::Call { call, args } => push_call(tasks, program, scope, *call, args.as_slice()),
         TypedExpr::Builtin {
             which,
             unsigned,
@@ -83,9 +87,9 @@ pub fn push_value<'a>(
                 which: *which,
                 unsigned: *unsigned,
             })?;
-            push_values(tasks, scope, args.as_slice())
+            push_values(tasks, program, scope, args.as_slice())
         }
-        TypedExpr::Paren(part) => push_value(tasks, scope, part),
+        TypedExpr::Paren(part) => push_value(tasks, program, scope, part),
     }
 }
 
@@ -93,18 +97,31 @@ pub fn push_value<'a>(
 #[cycle(unfold)]
 fn push_values<'a>(
     tasks: &mut Tasks<'a>,
+    program: &'a [TypedFunction],
     scope: &Scope<'a>,
     args: &'a [Argument],
 ) -> Result<(), AllocError>
-    ensures { OnOk result (Puts (scope_of scope.now) tasks.old tasks.new (values_tasks (program_of scope.now) (scope_of scope.now) (arg_nodes (map argument_node args.now)))) }
+    ensures { OnOk result (Puts (scope_of scope.now) tasks.old tasks.new (values_tasks (map function_node program.now) (scope_of scope.now) (arg_nodes (map argument_node args.now)))) }
 {
-    match args {
-        [] => Ok(()),
-        [Argument::Value(expr), more @ ..] => {
-            push_values(tasks, scope, more)?;
-            push_value(tasks, scope, expr)
-        }
-        [Argument::Array(_), more @ ..] => push_values(tasks, scope, more),
+    for k in (0..args.len()).rev() {
+        push_argument(tasks, program, scope, &args[k])?;
+    }
+    Ok(())
+}
+
+/// The value of an argument, where it is one.
+#[cycle(unfold)]
+fn push_argument<'a>(
+    tasks: &mut Tasks<'a>,
+    program: &'a [TypedFunction],
+    scope: &Scope<'a>,
+    arg: &'a Argument,
+) -> Result<(), AllocError>
+    ensures { OnOk result (Puts (scope_of scope.now) tasks.old tasks.new (argument_tasks (map function_node program.now) (scope_of scope.now) (argument_node arg.now))) }
+{
+    match arg {
+        Argument::Value(expr) => push_value(tasks, program, scope, expr),
+        Argument::Array(_) => Ok(()),
     }
 }
 
@@ -112,89 +129,97 @@ fn push_values<'a>(
 #[cycle(unfold)]
 fn push_call<'a>(
     tasks: &mut Tasks<'a>,
+    program: &'a [TypedFunction],
     scope: &Scope<'a>,
     call: u32,
     args: &'a [Argument],
 ) -> Result<(), AllocError>
-    ensures { OnOk result (Puts (scope_of scope.now) tasks.old tasks.new (call_at (program_of scope.now) (scope_of scope.now) call (arg_nodes (map argument_node args.now)))) }
+    ensures { OnOk result (Puts (scope_of scope.now) tasks.old tasks.new (call_at (map function_node program.now) (scope_of scope.now) call (arg_nodes (map argument_node args.now)))) }
 {
-    let Some(site) = scope.function.calls.get(call as usize) else {
-        return tasks.push(Task::Number(0));
-    };
-    let Some(callee) = scope.functions.get(site.callee as usize) else {
-        return tasks.push(Task::Number(0));
-    };
-    tasks.push(Task::Invoke {
-        site: *site,
-        callee,
-        args,
-    })?;
-    let first = scope.variable(site.variables);
-    push_args(tasks, scope, first, callee.params.as_slice(), args)
+    match scope.callee(program, call) {
+        Some(callee) => {
+            tasks.push(Task::Invoke { callee, args })?;
+            push_args(tasks, program, scope, callee.site, callee.function, args)
+        }
+        None => tasks.push(Task::Number(0)),
+    }
 }
 
-/// Arguments bound to parameters, of which the next scalar one is this variable.
+/// The arguments of a call, each bound to its parameter.
 #[cycle(unfold)]
 fn push_args<'a>(
     tasks: &mut Tasks<'a>,
+    program: &'a [TypedFunction],
     scope: &Scope<'a>,
-    variable: u32,
-    params: &[Param],
+    site: CallSite,
+    callee: &TypedFunction,
     args: &'a [Argument],
 ) -> Result<(), AllocError>
-    ensures { OnOk result (Puts (scope_of scope.now) tasks.old tasks.new (args_tasks (program_of scope.now) (scope_of scope.now) variable params.now (arg_nodes (map argument_node args.now)))) }
+    ensures { OnOk result (Puts (scope_of scope.now) tasks.old tasks.new (args_tasks (map function_node program.now) (scope_of scope.now) (variable_in (scope_of scope.now) site.variables) callee.now.params 0 (arg_nodes (map argument_node args.now)))) }
 {
-    match args {
-        [] => Ok(()),
-        [Argument::Value(expr), more @ ..] => {
-            let kind = first_kind(params);
-            push_args(tasks, scope, behind(kind, variable), other_params(params), more)?;
-            tasks.push(binding(kind, variable))?;
-            push_value(tasks, scope, expr)
+    let first = scope.variable(site.variables);
+    let params = callee.params.as_slice();
+    for k in (0..args.len()).rev() {
+        push_bound(tasks, program, scope, binding(first, params, k), &args[k])?;
+    }
+    Ok(())
+}
+
+/// The value of an argument, where it is one, and what is done with it.
+#[cycle(unfold)]
+fn push_bound<'a>(
+    tasks: &mut Tasks<'a>,
+    program: &'a [TypedFunction],
+    scope: &Scope<'a>,
+    bound: Task<'a>,
+    arg: &'a Argument,
+) -> Result<(), AllocError>
+    ensures { OnOk result (Puts (scope_of scope.now) tasks.old tasks.new (bound_tasks (map function_node program.now) (scope_of scope.now) (task_of (scope_of scope.now) bound.entry) (argument_node arg.now))) }
+{
+    match arg {
+        Argument::Value(expr) => {
+            tasks.push(bound)?;
+            push_value(tasks, program, scope, expr)
         }
-        [Argument::Array(_), more @ ..] => {
-            let kind = first_kind(params);
-            push_args(tasks, scope, behind(kind, variable), other_params(params), more)
-        }
+        Argument::Array(_) => Ok(()),
     }
 }
 
-/// What the first parameter takes.
-fn first_kind(params: &[Param]) -> Option<ParamKind>
-    ensures { result ≡ first_kind_of params.now }
+/// What is done with the value of an argument, where the first scalar parameter is this variable.
+fn binding<'a>(first: u32, params: &[Param], k: usize) -> Task<'a>
+    ensures { (scope : AnyScope) → task_of scope result ≡ binding_of first params.now k }
 {
-    match params {
-        [] => None,
-        [first, ..] => Some(first.kind),
-    }
-}
-
-/// The parameters behind the first.
-fn other_params(params: &[Param]) -> &[Param]
-    ensures { result.now ≡ other_params_of params.now }
-{
-    match params {
-        [] => params,
-        [_, others @ ..] => others,
-    }
-}
-
-/// The variable of the scalar parameter behind one of this kind.
-fn behind(kind: Option<ParamKind>, variable: u32) -> u32
-    ensures { result ≡ behind_of kind variable }
-{
-    match kind {
-        Some(ParamKind::Scalar(_)) => variable.saturating_add(1),
-        Some(ParamKind::Pointer { .. }) | None => variable,
+    let variable = variable_at(first, params, k);
+    match params.get(k) {
+        Some(param) => bound_as(variable, param.kind),
+        None => Task::Discard,
     }
 }
 
 /// What is done with a value that is bound to a parameter of this kind.
-fn binding<'a>(kind: Option<ParamKind>, variable: u32) -> Task<'a>
-    ensures { result ≡ binding_of kind variable }
+fn bound_as<'a>(variable: u32, kind: ParamKind) -> Task<'a>
+    ensures { (scope : AnyScope) → task_of scope result ≡ bound_as_of variable kind }
 {
     match kind {
-        Some(ParamKind::Scalar(elem)) => Task::Assign { variable, elem },
-        Some(ParamKind::Pointer { .. }) | None => Task::Discard,
+        ParamKind::Scalar(elem) => Task::Assign { variable, elem },
+        ParamKind::Pointer { .. } => Task::Discard,
+    }
+}
+
+/// The variable of parameter k, where it is a scalar.
+fn variable_at(first: u32, params: &[Param], k: usize) -> u32
+    ensures { result ≡ cut (first + count_by is_scalar_of (take k params.now)) }
+{
+    let before = params.iter().take(k).filter(|param| is_scalar(param)).count();
+    first.saturating_add(u32::try_from(before).unwrap_or(u32::MAX))
+}
+
+/// Whether a parameter takes a number.
+fn is_scalar(param: &Param) -> bool
+    ensures { result ≡ is_scalar_of param.now }
+{
+    match param.kind {
+        ParamKind::Scalar(_) => true,
+        ParamKind::Pointer { .. } => false,
     }
 }
