@@ -154,12 +154,16 @@ abbrev pub operand_tasks : List FunctionNode → Scope → Option ExprNode → L
 operand_tasks program scope None ts = task.Number 1 ∷ ts
 operand_tasks program scope (Some e) ts = value_tasks program scope e ts
 
+-- the value of an operator on what `old` has and the right side
+abbrev pub combined_tasks : BinOp → Bool → SourceTask → (List SourceTask → List SourceTask) → List SourceTask → List SourceTask
+combined_tasks op unsigned old operand ts = old ∷ operand (task.Binary op unsigned ∷ ts)
+
 -- The new value of a target, where `old` has its value before: that of `=` does not look at it.
 abbrev pub assigned_tasks : AssignOp → Bool → SourceTask → (List SourceTask → List SourceTask) → List SourceTask → List SourceTask
 assigned_tasks Set unsigned old operand ts = operand ts
-assigned_tasks (With op) unsigned old operand ts = old ∷ operand (task.Binary op unsigned ∷ ts)
-assigned_tasks Up unsigned old operand ts = old ∷ operand (task.Binary Add unsigned ∷ ts)
-assigned_tasks Down unsigned old operand ts = old ∷ operand (task.Binary Sub unsigned ∷ ts)
+assigned_tasks (With op) unsigned old operand ts = combined_tasks op unsigned old operand ts
+assigned_tasks Up unsigned old operand ts = combined_tasks Add unsigned old operand ts
+assigned_tasks Down unsigned old operand ts = combined_tasks Sub unsigned old operand ts
 
 -- a value that a function gives back
 abbrev pub given_tasks : Gives → List SourceTask → List SourceTask
@@ -170,11 +174,10 @@ abbrev pub return_tasks : List FunctionNode → Scope → Option ExprNode → Li
 return_tasks program scope None ts = task.Number 0 ∷ task.Return ∷ ts
 return_tasks program scope (Some e) ts = value_tasks program scope e (given_tasks scope.function.gives (task.Return ∷ ts))
 
--- a variable is 0, and then the value that is written
-abbrev pub declare_tasks : List FunctionNode → Scope → ℕ → Elem → Option ExprNode → List SourceTask → List SourceTask
-declare_tasks program scope variable elem None ts = task.Clear (variable_in scope variable) ∷ ts
-declare_tasks program scope variable elem (Some e) ts =
-    task.Clear (variable_in scope variable) ∷ value_tasks program scope e (task.Assign (variable_in scope variable) elem ∷ ts)
+-- a variable of the kernel is 0, and then it has the value that is written
+abbrev pub declared_tasks : List FunctionNode → Scope → ℕ → Elem → Option ExprNode → List SourceTask → List SourceTask
+declared_tasks program scope variable elem None ts = task.Clear variable ∷ ts
+declared_tasks program scope variable elem (Some e) ts = task.Clear variable ∷ value_tasks program scope e (task.Assign variable elem ∷ ts)
 
 -- the loop with these parts
 abbrev pub loop_in : Scope → Option ExprNode → StmtNode → StmtNode → SourceLoop
@@ -192,7 +195,7 @@ head_tasks program scope (Some test) loop ts = value_tasks program scope test (t
 abbrev mutual
   -- The tasks of a statement, and then the rest.
   pub stmt_tasks : List FunctionNode → Scope → StmtNode → List SourceTask → List SourceTask
-  stmt_tasks program scope (DeclareNode variable elem value) ts = declare_tasks program scope variable elem value ts
+  stmt_tasks program scope (DeclareNode variable elem value) ts = declared_tasks program scope (variable_in scope variable) elem value ts
   stmt_tasks program scope (LocalArrayNode array count) ts = ts
   stmt_tasks program scope (SetVariableNode variable elem op unsigned value) ts =
       assigned_tasks op unsigned (task.Variable (variable_in scope variable)) (operand_tasks program scope value) (task.Assign (variable_in scope variable) elem ∷ ts)

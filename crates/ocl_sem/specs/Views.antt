@@ -1,14 +1,36 @@
 -- Which state of the machine the code's state is.
-use Rattle.std.specs.Prelude.{◌≡◌, List, [], ◌∷◌, map, None, Some}
+use Rattle.std.specs.Prelude.{◌≡◌, ℕ, nat_lt, if◌then◌else◌, ◌*◌, ◌^◌, ◌≤◌, List, [], ◌∷◌, map, Option, None, Some}
+use Rattle.vx_base.specs.Values.{elem_bytes, fitted}
+use Rattle.vx_base.specs.declared.types.Pos.{Pos}
+use Rattle.item_acts.specs.declared.acts.Action.TheVariants.{Load as LoadAction, Store as StoreAction, Fault, End}
+use Rattle.item_acts.specs.Machine.{Step, Go, Ask, Stop}
 use Rattle.ocl_program.specs.declared.exprs.ArrayRef.{ArrayRef}
 use Rattle.ocl_program.specs.declared.exprs.ArrayRef.TheVariants.{Parameter}
-use Rattle.ocl_program.specs.Nodes.{FunctionNode, StmtNode, IfNode, IfElseNode, WhileNode, DoNode, ForNode, BlockNode, NoStmts, ArgNode, ValueNode, ArrayNode, arg_nodes}
+use Rattle.ocl_program.specs.Nodes.{FunctionNode, ExprNode, StmtNode, IfNode, IfElseNode, WhileNode, DoNode, ForNode, BlockNode, NoStmts, ArgNode, ValueNode, ArrayNode, arg_nodes}
 use Rattle.ocl_program.specs.Shapes.{node_of, argument_node, stmt_node, typed_stmts, function_node}
+use Rattle.ocl_sem.specs.declared.frames.Frame.{Frame as HeldFrame}
+use Rattle.ocl_sem.specs.declared.frames.Found.{Found}
+use Rattle.ocl_sem.specs.declared.frames.Found.TheVariants.{Moved, Asks, Stops}
+use Rattle.ocl_sem.specs.declared.frames.State.{State as HeldState}
 use Rattle.ocl_sem.specs.declared.scopes.Scope.{Scope as HeldScope}
+use Rattle.ocl_sem.specs.declared.settings.Setting.{Setting as HeldSetting}
 use Rattle.ocl_sem.specs.declared.tasks.Task.{Task as HeldTask}
 use Rattle.ocl_sem.specs.declared.tasks.Task.TheVariants as held
-use Rattle.ocl_sem.specs.Source.{Scope, PlacedExpr, PlacedStmt, SourceTask, SourceLoop, array_in, loop_in, scope_at, value_tasks}
+use Rattle.ocl_sem.specs.Settings.{Setting, elem_size, element_in, setting_of}
+use Rattle.ocl_sem.specs.Source.{Scope, PlacedExpr, PlacedStmt, SourceTask, SourceLoop, array_in, head_tasks, loop_in, scope_at, source_parts, value_tasks}
+use Rattle.ocl_sem.specs.Items.{ItemState}
 use Rattle.ocl_sem.specs.Tasks as task
+use Rattle.ocl_sem.specs.Tasks.{Parts}
+
+abbrev pub placed_expr : Scope → ExprNode → PlacedExpr
+placed_expr scope expr = record { scope = scope; expr = expr }
+
+abbrev pub placed_stmt : Scope → StmtNode → PlacedStmt
+placed_stmt scope stmt = record { scope = scope; stmt = stmt }
+
+-- what an item knows of its launch
+abbrev pub setting_in : HeldSetting → Setting
+setting_in s = setting_of (function_node s.kernel.now) s.range s.bounds.now s.item
 
 -- the active call
 abbrev pub scope_of : HeldScope → Scope
@@ -19,12 +41,26 @@ scope_of s = record {
   arrays = s.arrays.items;
 }
 
+-- the test, the step and the body of a loop, of which a statement that is none has no test and no step
+abbrev pub test_of : StmtNode → Option ExprNode
+test_of (WhileNode test body) = Some test
+test_of (DoNode body test) = Some test
+test_of (ForNode first test step body) = test
+test_of other = None
+
+abbrev pub step_of : StmtNode → StmtNode
+step_of (ForNode first test step body) = BlockNode step
+step_of other = BlockNode NoStmts
+
+abbrev pub body_of : StmtNode → StmtNode
+body_of (WhileNode test body) = body
+body_of (DoNode body test) = body
+body_of (ForNode first test step body) = body
+body_of other = other
+
 -- the loop that a statement is
 abbrev pub loop_of : Scope → StmtNode → SourceLoop
-loop_of scope (WhileNode test body) = loop_in scope (Some test) (BlockNode NoStmts) body
-loop_of scope (DoNode body test) = loop_in scope (Some test) (BlockNode NoStmts) body
-loop_of scope (ForNode first test step body) = loop_in scope test (BlockNode step) body
-loop_of scope other = loop_in scope None (BlockNode NoStmts) other
+loop_of scope stmt = loop_in scope (test_of stmt) (step_of stmt) (body_of stmt)
 
 -- the branches of an `if`
 abbrev pub branch_of : Scope → StmtNode → SourceTask
@@ -87,3 +123,62 @@ argument_tasks program scope (ArrayNode array) ts = ts
 abbrev pub bound_tasks : List FunctionNode → Scope → SourceTask → ArgNode → List SourceTask → List SourceTask
 bound_tasks program scope bound (ValueNode e) ts = value_tasks program scope e (bound ∷ ts)
 bound_tasks program scope bound (ArrayNode array) ts = ts
+
+-- an `if` from its test on, and loops from where they are entered
+abbrev pub branch_tasks : List FunctionNode → Scope → ExprNode → StmtNode → List SourceTask → List SourceTask
+branch_tasks program scope test stmt ts = value_tasks program scope test (branch_of scope stmt ∷ ts)
+
+abbrev pub do_tasks : Scope → StmtNode → List SourceTask → List SourceTask
+do_tasks scope stmt ts = task.Enter ∷ task.Begin (loop_of scope stmt) ∷ ts
+
+abbrev pub entered_tasks : List FunctionNode → Scope → StmtNode → List SourceTask → List SourceTask
+entered_tasks program scope stmt ts = task.Enter ∷ head_tasks program scope (test_of stmt) (loop_of scope stmt) ts
+
+-- ---- states
+
+-- the tasks of active calls, the innermost first, behind the end of the call that they made
+abbrev pub tasks_under : List HeldFrame → List SourceTask
+tasks_under [] = []
+tasks_under (frame ∷ frames) = task.CallEnd ∷ tasks_onto (scope_of frame.scope) frame.tasks (tasks_under frames)
+
+abbrev pub tasks_in : HeldState → List SourceTask
+tasks_in s = tasks_onto (scope_of s.frame.scope) s.frame.tasks (tasks_under s.callers)
+
+abbrev pub state_of : HeldState → ItemState
+state_of s = record { tasks = tasks_in s; values = s.values; variables = s.variables; turns = s.turns }
+
+abbrev pub parts_of : HeldState → Parts PlacedExpr PlacedStmt
+parts_of s = source_parts (map function_node s.program.now)
+
+-- what a step found, where the state behind it is this one
+abbrev pub shown : Found → ItemState → Step ItemState
+shown Moved s = Go s
+shown (Asks a None) s = Ask a (λ answer. s)
+shown (Asks a (Some elem)) s = Ask a (λ answer. task.holding (fitted elem answer ∷ s.values) s)
+shown (Stops a) s = Stop a
+
+-- a step of a state of the same program
+abbrev pub Finds : HeldState → HeldState → Found → Step ItemState → Type 0
+Finds before after found x = (x ≡ shown found (state_of after)) × (after.program ≡ before.program)
+
+-- where a body ends: the call behind which it stood gives 0, or the item is done
+abbrev pub left_call : List SourceTask → ItemState → Step ItemState
+left_call [] s = Stop End
+left_call (t ∷ ts) s = Go (task.holding (0 ∷ s.values) (task.onward ts s))
+
+-- what a load of element i finds, and a store to it
+abbrev pub found_load : Setting → ArrayRef → ℕ → Pos → Found
+found_load at array i pos =
+    if nat_lt i (at.array array).count then Asks (LoadAction (element_in at.group (at.array array) i) (elem_size (at.array array).elem)) (Some (at.array array).elem)
+    else Stops (Fault pos)
+
+abbrev pub found_store : Setting → ArrayRef → ℕ → ℕ → Pos → Found
+found_store at array i v pos =
+    if nat_lt i (at.array array).count then
+      (if (at.array array).writable then Asks (StoreAction (element_in at.group (at.array array) i) (elem_size (at.array array).elem) (task.low_bytes (at.array array).elem v)) None
+      else Moved)
+    else Stops (Fault pos)
+
+-- each array of the launch ends within 2 ^ 32 bytes
+abbrev pub HasRoom : Setting → Type 0
+HasRoom at = (array : ArrayRef) → (at.array array).count * elem_bytes (at.array array).elem ≤ 2 ^ 32

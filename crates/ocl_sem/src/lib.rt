@@ -6,8 +6,18 @@
 //! code's state is.
 #![tactic(auto)]
 
+pub mod accesses;
+pub mod branches;
+pub mod frames;
+pub mod jumps;
+pub mod operators;
 pub mod scopes;
 pub mod settings;
 pub mod stack;
+pub mod statements;
+pub mod steps;
 pub mod tasks;
+pub mod turns;
 pub mod unfold;
+pub mod values;
+pub mod variables;

@@ -100,3 +100,56 @@ pub enum Task<'a> {
     /// `return`, with its value on top.
     Return,
 }
+
+/// What a task is for a jump that leaves it behind.
+#[derive(Clone, Copy, Debug, PartialEq, Eq)]
+pub enum Marker {
+    /// Nothing of a loop or a call.
+    Plain,
+    /// The end of a turn.
+    TurnEnd,
+    /// The beginning of a turn, or the test before it.
+    TurnStart,
+    /// The end of a helper's body.
+    BodyEnd,
+}
+
+impl<'a> Task<'a> {
+    ghost use Rattle.std.specs.Prelude.{◌≡◌};
+    ghost use Rattle.ocl_sem.specs.Source.{Scope as AnyScope};
+    ghost use Rattle.ocl_sem.specs.Tasks.{marker_of};
+    ghost use Rattle.ocl_sem.specs.Views.{task_of};
+
+    /// What it is for a jump.
+    pub fn marker(&self) -> Marker
+        ensures { (scope : AnyScope) → marker_of (task_of scope self.now) ≡ result }
+    {
+        match self {
+            Task::Again(_) => Marker::TurnEnd,
+            Task::Decide(_) | Task::Begin(_) => Marker::TurnStart,
+            Task::Number(_)
+            | Task::Variable(_)
+            | Task::Unary(_)
+            | Task::Binary { .. }
+            | Task::Fit(_)
+            | Task::Builtin { .. }
+            | Task::Truth
+            | Task::AndThen(_)
+            | Task::OrElse(_)
+            | Task::Choose { .. }
+            | Task::Load { .. }
+            | Task::Reread { .. }
+            | Task::Store { .. }
+            | Task::Clear(_)
+            | Task::Assign { .. }
+            | Task::Discard
+            | Task::Wait(_)
+            | Task::Branch(_)
+            | Task::Enter
+            | Task::Invoke { .. }
+            | Task::Break
+            | Task::Continue
+            | Task::Return => Marker::Plain,
+        }
+    }
+}

@@ -210,8 +210,21 @@ fn bound_as<'a>(variable: u32, kind: ParamKind) -> Task<'a>
 fn variable_at(first: u32, params: &[Param], k: usize) -> u32
     ensures { result ≡ cut (first + count_by is_scalar_of (take k params.now)) }
 {
-    let before = params.iter().take(k).filter(|param| is_scalar(param)).count();
-    first.saturating_add(u32::try_from(before).unwrap_or(u32::MAX))
+    first.saturating_add(cut_word(scalars_before(params, k)))
+}
+
+/// How many parameters before parameter k are scalars.
+fn scalars_before(params: &[Param], k: usize) -> usize
+    ensures { result ≡ count_by is_scalar_of (take k params.now) }
+{
+    params.iter().take(k).filter(|param| is_scalar(param)).count()
+}
+
+/// A number cut at 2^32 - 1.
+pub fn cut_word(n: usize) -> u32
+    ensures { result ≡ cut n }
+{
+    u32::try_from(n).unwrap_or(u32::MAX)
 }
 
 /// Whether a parameter takes a number.

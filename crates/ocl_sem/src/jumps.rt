@@ -1,0 +1,120 @@
+//! Calls of helpers, and jumps.
+ghost use Rattle.std.specs.Prelude.{◌≡◌, [], IfOk, map};
+ghost use Rattle.item_acts.specs.Machine.{Go};
+ghost use Rattle.ocl_program.specs.Nodes.{BlockNode, arg_nodes};
+ghost use Rattle.ocl_program.specs.Shapes.{argument_node, function_node, typed_stmts};
+ghost use Rattle.ocl_sem.specs.Settings.{Setting as AnySetting};
+ghost use Rattle.ocl_sem.specs.Source.{scope_at};
+ghost use Rattle.ocl_sem.specs.Tasks as task;
+ghost use Rattle.ocl_sem.specs.Tasks.{task_step};
+ghost use Rattle.ocl_sem.specs.Views.{Finds, left_call, parts_of, placed_stmt, scope_of, state_of, tasks_under};
+
+use crate::frames::{Found, Frame, State};
+use crate::scopes::Callee;
+use crate::stack::Stack;
+use crate::statements::push_stmts;
+use crate::tasks::Marker;
+use crate::turns::leave_turns;
+use item_acts::Action;
+use ocl_program::Argument;
+use std::alloc::{AllocError, Global};
+use std::mem;
+
+impl<'a> State<'a> {
+    /// The end of the innermost call, or of the item where there is none round it.
+    pub fn leave(&mut self) -> Result<Found, AllocError>
+        requires done { self.old.frame.tasks ≡ [] }
+        ensures { IfOk result (λ found. Finds self.old self.new found (left_call (tasks_under self.old.callers) (state_of self.old))) }
+    {
+        match self.callers.pop() {
+            Some(caller) => {
+                self.frame = caller;
+                self.values.push(0)?;
+                Ok(Found::Moved)
+            }
+            None => Ok(Found::Stops(Action::End)),
+        }
+    }
+
+    /// The body of a helper.
+    pub fn invoke(
+        &mut self,
+        alloc: Global,
+        callee: Callee<'a>,
+        args: &'a [Argument],
+    ) -> Result<Found, AllocError>
+        ensures { IfOk result (λ found. (at : AnySetting) → Finds self.old self.new found (task_step (parts_of self.old) at (task.Invoke (placed_stmt (scope_at (scope_of self.old.frame.scope) callee.entry.site (function_node callee.entry.function.now) (arg_nodes (map argument_node args.now))) (BlockNode (typed_stmts callee.entry.function.now.body.items)))) (state_of self.old))) }
+    {
+        let scope = self.frame.scope.inner(alloc, callee, args)?;
+        let mut tasks = Stack::new(alloc);
+        push_stmts(&mut tasks, self.program, &scope, callee.function.body.as_slice())?;
+        let caller = mem::replace(&mut self.frame, Frame { scope, tasks });
+        self.callers.push(caller)?;
+        Ok(Found::Moved)
+    }
+
+    /// `return`
+    pub fn leave_call(&mut self) -> Result<Found, AllocError>
+        ensures { IfOk result (λ found. (at : AnySetting) → Finds self.old self.new found (task_step (parts_of self.old) at task.Return (state_of self.old))) }
+    {
+        while let Some(task) = self.frame.tasks.pop() {
+            match task.marker() {
+                Marker::TurnEnd | Marker::TurnStart => leave_turns(&mut self.turns),
+                Marker::Plain | Marker::BodyEnd => {}
+            }
+        }
+        if let Some(caller) = self.callers.pop() {
+            self.frame = caller;
+        }
+        Ok(Found::Moved)
+    }
+
+    /// `break`
+    pub fn leave_loop(&mut self) -> Result<Found, AllocError>
+        ensures { IfOk result (λ found. (at : AnySetting) → Finds self.old self.new found (task_step (parts_of self.old) at task.Break (state_of self.old))) }
+    {
+        while let Some(task) = self.frame.tasks.pop() {
+            match task.marker() {
+                Marker::TurnEnd | Marker::TurnStart => {
+                    leave_turns(&mut self.turns);
+                    return Ok(Found::Moved);
+                }
+                Marker::Plain | Marker::BodyEnd => {}
+            }
+        }
+        self.leave_outside()
+    }
+
+    /// `continue`
+    pub fn end_turn(&mut self) -> Result<Found, AllocError>
+        ensures { IfOk result (λ found. (at : AnySetting) → Finds self.old self.new found (task_step (parts_of self.old) at task.Continue (state_of self.old))) }
+    {
+        while let Some(task) = self.frame.tasks.pop() {
+            match task.marker() {
+                Marker::TurnEnd => {
+                    self.frame.tasks.push(task)?;
+                    return Ok(Found::Moved);
+                }
+                Marker::TurnStart => {
+                    leave_turns(&mut self.turns);
+                    return Ok(Found::Moved);
+                }
+                Marker::Plain | Marker::BodyEnd => {}
+            }
+        }
+        self.leave_outside()
+    }
+
+    /// A jump outside every loop of a call: a `return` of 0.
+    fn leave_outside(&mut self) -> Result<Found, AllocError>
+        requires done { self.old.frame.tasks ≡ [] }
+        ensures { IfOk result (λ found. Finds self.old self.new found (Go (task.left (tasks_under self.old.callers) (state_of self.old)))) }
+    {
+        if let Some(caller) = self.callers.pop() {
+            self.frame = caller;
+            self.values.push(0)?;
+            return Ok(Found::Moved);
+        }
+        Ok(Found::Moved)
+    }
+}
