@@ -1,2 +1,3 @@
 mod WorkedItems
 pub mod Unfolding
+pub mod InArrays

@@ -1,5 +1,5 @@
 -- Which state of the machine the code's state is.
-use Rattle.std.specs.Prelude.{◌≡◌, ℕ, nat_lt, if◌then◌else◌, ◌*◌, ◌^◌, ◌≤◌, List, [], ◌∷◌, map, Option, None, Some}
+use Rattle.std.specs.Prelude.{◌≡◌, ℕ, nat_lt, slice_index, if◌then◌else◌, ◌*◌, ◌^◌, ◌≤◌, List, [], ◌∷◌, map, Option, None, Some}
 use Rattle.vx_base.specs.Values.{elem_bytes, fitted}
 use Rattle.vx_base.specs.declared.types.Pos.{Pos}
 use Rattle.item_acts.specs.declared.acts.Action.TheVariants.{Load as LoadAction, Store as StoreAction, Fault, End}
@@ -142,10 +142,10 @@ tasks_under [] = []
 tasks_under (frame ∷ frames) = task.CallEnd ∷ tasks_onto (scope_of frame.scope) frame.tasks (tasks_under frames)
 
 abbrev pub tasks_in : HeldState → List SourceTask
-tasks_in s = tasks_onto (scope_of s.frame.scope) s.frame.tasks (tasks_under s.callers)
+tasks_in s = tasks_onto (scope_of s.scope) s.tasks (tasks_under s.callers)
 
 abbrev pub state_of : HeldState → ItemState
-state_of s = record { tasks = tasks_in s; values = s.values; variables = s.variables; turns = s.turns }
+state_of s = record { tasks = tasks_in s; values = s.values; variables = slice_index s.variables.items.items; turns = s.turns }
 
 abbrev pub parts_of : HeldState → Parts PlacedExpr PlacedStmt
 parts_of s = source_parts (map function_node s.program.now)

@@ -23,7 +23,9 @@ pub struct State<'a> {
     /// The functions of the file.
     pub program: &'a [TypedFunction],
     /// The innermost active call.
-    pub frame: Frame<'a>,
+    pub scope: Scope<'a>,
+    /// What is left to do in it.
+    pub tasks: Tasks<'a>,
     /// The active calls round it, the innermost on top.
     pub callers: Stack<Frame<'a>>,
     /// The values, the last one on top.

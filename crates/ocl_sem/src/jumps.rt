@@ -23,12 +23,13 @@ use std::mem;
 impl<'a> State<'a> {
     /// The end of the innermost call, or of the item where there is none round it.
     pub fn leave(&mut self) -> Result<Found, AllocError>
-        requires done { self.old.frame.tasks ≡ [] }
+        requires done { self.old.tasks ≡ [] }
         ensures { IfOk result (λ found. Finds self.old self.new found (left_call (tasks_under self.old.callers) (state_of self.old))) }
     {
         match self.callers.pop() {
             Some(caller) => {
-                self.frame = caller;
+                self.scope = caller.scope;
+                self.tasks = caller.tasks;
                 self.values.push(0)?;
                 Ok(Found::Moved)
             }
@@ -43,12 +44,15 @@ impl<'a> State<'a> {
         callee: Callee<'a>,
         args: &'a [Argument],
     ) -> Result<Found, AllocError>
-        ensures { IfOk result (λ found. (at : AnySetting) → Finds self.old self.new found (task_step (parts_of self.old) at (task.Invoke (placed_stmt (scope_at (scope_of self.old.frame.scope) callee.entry.site (function_node callee.entry.function.now) (arg_nodes (map argument_node args.now))) (BlockNode (typed_stmts callee.entry.function.now.body.items)))) (state_of self.old))) }
+        ensures { IfOk result (λ found. (at : AnySetting) → Finds self.old self.new found (task_step (parts_of self.old) at (task.Invoke (placed_stmt (scope_at (scope_of self.old.scope) callee.entry.site (function_node callee.entry.function.now) (arg_nodes (map argument_node args.now))) (BlockNode (typed_stmts callee.entry.function.now.body.items)))) (state_of self.old))) }
     {
-        let scope = self.frame.scope.inner(alloc, callee, args)?;
+        let scope = self.scope.inner(alloc, callee, args)?;
         let mut tasks = Stack::new(alloc);
         push_stmts(&mut tasks, self.program, &scope, callee.function.body.as_slice())?;
-        let caller = mem::replace(&mut self.frame, Frame { scope, tasks });
+        let caller = Frame {
+            scope: mem::replace(&mut self.scope, scope),
+            tasks: mem::replace(&mut self.tasks, tasks),
+        };
         self.callers.push(caller)?;
         Ok(Found::Moved)
     }
@@ -57,14 +61,15 @@ impl<'a> State<'a> {
     pub fn leave_call(&mut self) -> Result<Found, AllocError>
         ensures { IfOk result (λ found. (at : AnySetting) → Finds self.old self.new found (task_step (parts_of self.old) at task.Return (state_of self.old))) }
     {
-        while let Some(task) = self.frame.tasks.pop() {
+        while let Some(task) = self.tasks.pop() {
             match task.marker() {
                 Marker::TurnEnd | Marker::TurnStart => leave_turns(&mut self.turns),
                 Marker::Plain | Marker::BodyEnd => {}
             }
         }
         if let Some(caller) = self.callers.pop() {
-            self.frame = caller;
+            self.scope = caller.scope;
+                self.tasks = caller.tasks;
         }
         Ok(Found::Moved)
     }
@@ -73,7 +78,7 @@ impl<'a> State<'a> {
     pub fn leave_loop(&mut self) -> Result<Found, AllocError>
         ensures { IfOk result (λ found. (at : AnySetting) → Finds self.old self.new found (task_step (parts_of self.old) at task.Break (state_of self.old))) }
     {
-        while let Some(task) = self.frame.tasks.pop() {
+        while let Some(task) = self.tasks.pop() {
             match task.marker() {
                 Marker::TurnEnd | Marker::TurnStart => {
                     leave_turns(&mut self.turns);
@@ -89,10 +94,10 @@ impl<'a> State<'a> {
     pub fn end_turn(&mut self) -> Result<Found, AllocError>
         ensures { IfOk result (λ found. (at : AnySetting) → Finds self.old self.new found (task_step (parts_of self.old) at task.Continue (state_of self.old))) }
     {
-        while let Some(task) = self.frame.tasks.pop() {
+        while let Some(task) = self.tasks.pop() {
             match task.marker() {
                 Marker::TurnEnd => {
-                    self.frame.tasks.push(task)?;
+                    self.tasks.push(task)?;
                     return Ok(Found::Moved);
                 }
                 Marker::TurnStart => {
@@ -107,11 +112,12 @@ impl<'a> State<'a> {
 
     /// A jump outside every loop of a call: a `return` of 0.
     fn leave_outside(&mut self) -> Result<Found, AllocError>
-        requires done { self.old.frame.tasks ≡ [] }
+        requires done { self.old.tasks ≡ [] }
         ensures { IfOk result (λ found. Finds self.old self.new found (Go (task.left (tasks_under self.old.callers) (state_of self.old)))) }
     {
         if let Some(caller) = self.callers.pop() {
-            self.frame = caller;
+            self.scope = caller.scope;
+                self.tasks = caller.tasks;
             self.values.push(0)?;
             return Ok(Found::Moved);
         }

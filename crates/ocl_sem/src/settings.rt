@@ -181,7 +181,7 @@ fn coordinate(first: u32, second: u32, n: u32, d: u32) -> u32
 
 /// What a parameter stands for as an array, where both are there.
 fn bound_at(param: Option<&Param>, bound: Option<&Bound>) -> ItemArray
-    ensures { result ≡ array_bound (option_copied param) (option_copied bound) }
+    ensures { result ≡ array_bound (option_copied param.entry) (option_copied bound.entry) }
 {
     match param {
         Some(param) => match bound {
@@ -228,7 +228,7 @@ fn is_writable(space: Space, readonly: bool) -> bool
 
 /// A `__local` array that the kernel declares.
 fn declared_at(params: &[Param], k: u32, array: Option<&LocalArray>) -> ItemArray
-    ensures { result ≡ declared_array params.now k (option_copied array) }
+    ensures { result ≡ declared_array params.now k (option_copied array.entry) }
 {
     match array {
         Some(array) => ItemArray {

@@ -1,5 +1,5 @@
 //! Statements as tasks. A stack takes what is done last first.
-ghost use Rattle.std.specs.Prelude.{OnOk, map, option_map};
+ghost use Rattle.std.specs.Prelude.{◌≡◌, OnOk, map, option_map};
 ghost use Rattle.ocl_program.specs.Shapes.{function_node, node_of, stmt_node, typed_stmts};
 ghost use Rattle.ocl_sem.specs.Source.{assigned_tasks, combined_tasks, declared_tasks, given_tasks, head_tasks, operand_tasks, return_tasks, stmt_tasks, stmts_tasks};
 ghost use Rattle.ocl_sem.specs.Views.{Puts, branch_tasks, do_tasks, entered_tasks, loop_of, scope_of, task_of, test_of};

@@ -18,7 +18,7 @@ impl<'a> State<'a> {
         requires room { HasRoom (setting_in at.now) }
         ensures { IfOk result (λ found. Finds self.old self.new found (step_of_item (parts_of self.old) (setting_in at.now) (state_of self.old))) }
     {
-        match self.frame.tasks.pop() {
+        match self.tasks.pop() {
             Some(task) => self.perform(alloc, at, task),
             None => self.leave(),
         }
@@ -32,7 +32,7 @@ impl<'a> State<'a> {
         task: Task<'a>,
     ) -> Result<Found, AllocError>
         requires room { HasRoom (setting_in at.now) }
-        ensures { IfOk result (λ found. Finds self.old self.new found (task_step (parts_of self.old) (setting_in at.now) (task_of (scope_of self.old.frame.scope) task.entry) (state_of self.old))) }
+        ensures { IfOk result (λ found. Finds self.old self.new found (task_step (parts_of self.old) (setting_in at.now) (task_of (scope_of self.old.scope) task.entry) (state_of self.old))) }
     {
         match task {
             Task::Number(n) => {

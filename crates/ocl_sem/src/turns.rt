@@ -92,7 +92,7 @@ fn push_step<'a>(
 impl<'a> State<'a> {
     /// A turn of this loop begins where the value on top is not 0.
     pub fn decide(&mut self, stmt: &'a TypedStmt) -> Result<Found, AllocError>
-        ensures { IfOk result (λ found. (at : AnySetting) → Finds self.old self.new found (task_step (parts_of self.old) at (task.Decide (loop_of (scope_of self.old.frame.scope) (stmt_node stmt.now))) (state_of self.old))) }
+        ensures { IfOk result (λ found. (at : AnySetting) → Finds self.old self.new found (task_step (parts_of self.old) at (task.Decide (loop_of (scope_of self.old.scope) (stmt_node stmt.now))) (state_of self.old))) }
     {
         if take(&mut self.values) == 0 {
             leave_turns(&mut self.turns);
@@ -103,20 +103,20 @@ impl<'a> State<'a> {
 
     /// A turn of this loop begins.
     pub fn begin(&mut self, stmt: &'a TypedStmt) -> Result<Found, AllocError>
-        ensures { IfOk result (λ found. (at : AnySetting) → Finds self.old self.new found (task_step (parts_of self.old) at (task.Begin (loop_of (scope_of self.old.frame.scope) (stmt_node stmt.now))) (state_of self.old))) }
+        ensures { IfOk result (λ found. (at : AnySetting) → Finds self.old self.new found (task_step (parts_of self.old) at (task.Begin (loop_of (scope_of self.old.scope) (stmt_node stmt.now))) (state_of self.old))) }
     {
-        self.frame.tasks.push(Task::Again(stmt))?;
-        push_stmt(&mut self.frame.tasks, self.program, &self.frame.scope, body_in(stmt))?;
+        self.tasks.push(Task::Again(stmt))?;
+        push_stmt(&mut self.tasks, self.program, &self.scope, body_in(stmt))?;
         Ok(Found::Moved)
     }
 
     /// A turn of this loop is over.
     pub fn again(&mut self, stmt: &'a TypedStmt) -> Result<Found, AllocError>
-        ensures { IfOk result (λ found. (at : AnySetting) → Finds self.old self.new found (task_step (parts_of self.old) at (task.Again (loop_of (scope_of self.old.frame.scope) (stmt_node stmt.now))) (state_of self.old))) }
+        ensures { IfOk result (λ found. (at : AnySetting) → Finds self.old self.new found (task_step (parts_of self.old) at (task.Again (loop_of (scope_of self.old.scope) (stmt_node stmt.now))) (state_of self.old))) }
     {
         raise(&mut self.turns)?;
-        push_head(&mut self.frame.tasks, self.program, &self.frame.scope, stmt)?;
-        push_step(&mut self.frame.tasks, self.program, &self.frame.scope, stmt)?;
+        push_head(&mut self.tasks, self.program, &self.scope, stmt)?;
+        push_step(&mut self.tasks, self.program, &self.scope, stmt)?;
         Ok(Found::Moved)
     }
 }

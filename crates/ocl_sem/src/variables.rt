@@ -1,42 +1,27 @@
 //! Variables by number.
-use std::alloc::{AllocError, Global};
-use std::marker::Model;
+ghost use Rattle.std.specs.Prelude.{◌≡◌, OnOk, slice_index};
+ghost use Rattle.item_acts.specs.Launches.{put_at};
 
-/// The values of variables: contracts see them as a family, which is 0 where nothing was put.
+use std::alloc::AllocError;
+
+/// The values of the first variables. Those behind them are 0.
 #[derive(Debug, Drop)]
 pub struct Variables {
-    items: Vec<u32>,
-}
-
-impl Model for Variables {
-    ghost use Rattle.std.specs.Prelude.{ℕ, slice_index};
-
-    ghost Value = { ℕ → ℕ };
-
-    ghost view = { λ v. slice_index v.items.items };
+    /// The values in order.
+    pub items: Vec<u32>,
 }
 
 impl Variables {
-    ghost use Rattle.std.specs.Prelude.{◌≡◌, OnOk, slice_index};
-    ghost use Rattle.item_acts.specs.Launches.{put_at};
-
-    /// The first variables have these values.
-    pub fn new(items: Vec<u32>) -> Variables
-        ensures { result ≡ slice_index items.items }
-    {
-        Variables { items }
-    }
-
     /// The value of a variable.
     pub fn get(&self, variable: u32) -> u32
-        ensures { result ≡ self.now variable }
+        ensures { result ≡ slice_index self.now.items.items variable }
     {
         self.items.get(variable as usize).copied().unwrap_or(0)
     }
 
     /// Puts a value into a variable.
     pub fn put(&mut self, variable: u32, value: u32) -> Result<(), AllocError>
-        ensures { OnOk result (self.new ≡ put_at variable value self.old) }
+        ensures { OnOk result (slice_index self.new.items.items ≡ put_at variable value (slice_index self.old.items.items)) }
     {
         let at = variable as usize;
         for _ in self.items.len()..=at {
