@@ -8,8 +8,10 @@ use Rattle.item_acts.specs.declared.acts.Asked.{Asked}
 use Rattle.item_acts.specs.declared.acts.Asked.TheVariants.{Act}
 use Rattle.item_acts.specs.Machine.{Step, Go, Ask, Stop, asked_at_once, asked_behind, asked}
 use Rattle.ocl_program.specs.declared.exprs.ArrayRef.{ArrayRef}
-use Rattle.ocl_sem.specs.Items.{IsElement, IsInArrays}
-use Rattle.ocl_sem.specs.Settings.{Setting, elem_size, element_in}
+use Rattle.ocl_sem.specs.Items.{IsElement, IsInArrays, item_start}
+use Rattle.ocl_sem.specs.Launched.{StaysInArrays}
+use Rattle.ocl_sem.specs.Settings.{Setting, elem_size, element_in, setting_of}
+use Rattle.ocl_sem.specs.Source.{source_parts}
 use Rattle.ocl_sem.specs.Tasks.{Number, Variable, Unary, Binary, Fit, Call, Truth, AndThen, OrElse, Choose, Load, Reread, Store, Clear, Assign, Discard, Wait, Branch, Enter, Decide, Begin, Again, Invoke, CallEnd, Break, Continue, Return, Task, Parts, State, holding, load_step, low_bytes, store_step, step, step_from, task_step, onward}
 
 -- what a step asks for is within the arrays
@@ -93,3 +95,8 @@ pub asked_in : {V T : Type 0} (parts : Parts V T) (at : Setting) (n : ℕ) (s : 
 asked_in parts at zero s answers a e = at_once_in at (step parts at s) answers a (tasks_act parts at s.tasks s) e
 asked_in parts at (suc n) s answers a e =
     behind_in at (asked (step parts at) n) (λ s' answers' a' e'. asked_in parts at n s' answers' a' e') (step parts at s) answers a (tasks_act parts at s.tasks s) e
+
+-- whatever an item of a launch asks for is within its arrays
+pub stays_in_arrays : StaysInArrays
+stays_in_arrays l item answers fuel action e =
+    asked_in (source_parts l.program) (setting_of l.kernel l.range l.bounds item) fuel (item_start l.program l.kernel l.bounds) answers action e

@@ -4,3 +4,4 @@ pub mod Tasks
 pub mod Source
 pub mod Items
 pub mod Views
+pub mod Launched

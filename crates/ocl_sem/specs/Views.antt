@@ -1,6 +1,10 @@
 -- Which state of the machine the code's state is.
 use Rattle.std.specs.Prelude.{◌≡◌, ℕ, nat_lt, slice_index, if◌then◌else◌, ◌*◌, ◌^◌, ◌≤◌, List, [], ◌∷◌, map, Option, None, Some}
 use Rattle.vx_base.specs.Values.{elem_bytes, fitted}
+use Rattle.vx_base.specs.declared.types.Elem.{Elem}
+use Rattle.item_acts.specs.declared.acts.Action.{Action}
+use Rattle.item_acts.specs.declared.acts.Asked.{Asked}
+use Rattle.item_acts.specs.declared.acts.Asked.TheVariants.{Act, Running}
 use Rattle.vx_base.specs.declared.types.Pos.{Pos}
 use Rattle.item_acts.specs.declared.acts.Action.TheVariants.{Load as LoadAction, Store as StoreAction, Fault, End}
 use Rattle.item_acts.specs.Machine.{Step, Go, Ask, Stop}
@@ -12,7 +16,11 @@ use Rattle.ocl_sem.specs.declared.frames.Frame.{Frame as HeldFrame}
 use Rattle.ocl_sem.specs.declared.frames.Found.{Found}
 use Rattle.ocl_sem.specs.declared.frames.Found.TheVariants.{Moved, Asks, Stops}
 use Rattle.ocl_sem.specs.declared.frames.State.{State as HeldState}
+use Rattle.ocl_sem.specs.declared.runs.Turn.{Turn}
+use Rattle.ocl_sem.specs.declared.runs.Turn.TheVariants.{Goes, Is}
 use Rattle.ocl_sem.specs.declared.scopes.Scope.{Scope as HeldScope}
+use Rattle.ocl_sem.specs.declared.tasks.Marker.{Marker}
+use Rattle.ocl_sem.specs.declared.tasks.Marker.TheVariants.{Plain, TurnEnd, TurnStart, BodyEnd}
 use Rattle.ocl_sem.specs.declared.settings.Setting.{Setting as HeldSetting}
 use Rattle.ocl_sem.specs.declared.tasks.Task.{Task as HeldTask}
 use Rattle.ocl_sem.specs.declared.tasks.Task.TheVariants as held
@@ -20,7 +28,7 @@ use Rattle.ocl_sem.specs.Settings.{Setting, elem_size, element_in, setting_of}
 use Rattle.ocl_sem.specs.Source.{Scope, PlacedExpr, PlacedStmt, SourceTask, SourceLoop, array_in, head_tasks, loop_in, scope_at, source_parts, value_tasks}
 use Rattle.ocl_sem.specs.Items.{ItemState}
 use Rattle.ocl_sem.specs.Tasks as task
-use Rattle.ocl_sem.specs.Tasks.{Parts}
+use Rattle.ocl_sem.specs.Tasks.{Parts, marker_of}
 
 abbrev pub placed_expr : Scope → ExprNode → PlacedExpr
 placed_expr scope expr = record { scope = scope; expr = expr }
@@ -182,3 +190,46 @@ found_store at array i v pos =
 -- each array of the launch ends within 2 ^ 32 bytes
 abbrev pub HasRoom : Setting → Type 0
 HasRoom at = (array : ArrayRef) → (at.array array).count * elem_bytes (at.array array).elem ≤ 2 ^ 32
+
+-- ---- jumps
+
+-- a task that a loop left behind
+abbrev pub IsLoopMarker : Marker → Type 0
+IsLoopMarker TurnEnd = Unit {0}
+IsLoopMarker TurnStart = Unit {0}
+IsLoopMarker Plain = ⊥
+IsLoopMarker BodyEnd = ⊥
+
+abbrev pub IsLoopTask : HeldTask → Type 0
+IsLoopTask t = (scope : Scope) → IsLoopMarker (marker_of (task_of scope t))
+
+-- jumps out of a loop, or to the end of its turn, do not look at the tasks before these
+pub record SkipsTo (before after : List HeldTask) : Type 0 where
+  pub left : (scope : Scope) (rest : List SourceTask) (s : ItemState) → task.left (tasks_onto scope before rest) s ≡ task.left (tasks_onto scope after rest) s
+  pub continued : (scope : Scope) (rest : List SourceTask) (s : ItemState) → task.continued (tasks_onto scope before rest) s ≡ task.continued (tasks_onto scope after rest) s
+
+-- a `return` over these tasks is one over those, with these turns left
+abbrev pub ReturnsTo : List HeldTask → List ℕ → List HeldTask → List ℕ → Type 0
+ReturnsTo before turns after turns' = (scope : Scope) (rest : List SourceTask) (s : ItemState)
+    → task.returned (tasks_onto scope before rest) (task.turning turns s) ≡ task.returned (tasks_onto scope after rest) (task.turning turns' s)
+
+-- ---- answers
+
+-- an answer that becomes a value of this type, or nothing
+abbrev pub told_value : Option Elem → ℕ → ItemState → ItemState
+told_value None answer s = s
+told_value (Some elem) answer s = task.holding (fitted elem answer ∷ s.values) s
+
+-- a state of the same program became this one
+abbrev pub Becomes : HeldState → HeldState → ItemState → Type 0
+Becomes before after s = (state_of after ≡ s) × (after.program ≡ before.program)
+
+-- what is asked for behind a turn, by what is asked for after the answers that are left
+abbrev pub went : Turn → (List ℕ → Asked) → Asked
+went (Goes answers) next = next answers.now
+went (Is a) next = a
+
+-- an action, where no answer is left
+abbrev pub without_answers : Action → List ℕ → Asked
+without_answers action [] = Act action
+without_answers action (answer ∷ answers) = Running

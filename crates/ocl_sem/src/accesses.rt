@@ -7,7 +7,7 @@ use crate::frames::Found;
 use crate::settings::{Setting, size_of_elem};
 use item_acts::Action;
 use ocl_program::ArrayRef;
-use vx_base::{Elem, Pos};
+use vx_base::{Elem, Pos, fit};
 
 /// A load of element i: a fault where the array has none.
 pub fn load(at: &Setting<'_>, array: ArrayRef, i: u32, pos: Pos) -> Found
@@ -49,8 +49,11 @@ fn low_bytes(elem: Elem, value: u32) -> u32
     ensures { result ≡ low_bytes_of elem value }
 {
     match elem {
-        Elem::Char | Elem::Uchar => value & 0xff,
-        Elem::Short | Elem::Ushort => value & 0xffff,
-        Elem::Int | Elem::Uint => value,
+        Elem::Char => fit(Elem::Uchar, value),
+        Elem::Uchar => fit(Elem::Uchar, value),
+        Elem::Short => fit(Elem::Ushort, value),
+        Elem::Ushort => fit(Elem::Ushort, value),
+        Elem::Int => fit(Elem::Uint, value),
+        Elem::Uint => fit(Elem::Uint, value),
     }
 }

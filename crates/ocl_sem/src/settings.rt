@@ -102,6 +102,7 @@ impl<'a> Setting<'a> {
     }
 
     /// The number of the item in its group in a dimension.
+    #[tactic(auto, using(crate::proofs::Sizes::rest_of_cut))]
     fn local_id(&self, d: u32) -> u32
         ensures { result ≡ local_id self.now.range self.now.item d }
     {

@@ -115,14 +115,34 @@ pub enum Marker {
 }
 
 impl<'a> Task<'a> {
-    ghost use Rattle.std.specs.Prelude.{◌≡◌};
+    ghost use Rattle.std.specs.Prelude.{◌≡◌, ◌≢◌, true, false};
     ghost use Rattle.ocl_sem.specs.Source.{Scope as AnyScope};
     ghost use Rattle.ocl_sem.specs.Tasks.{marker_of};
-    ghost use Rattle.ocl_sem.specs.Views.{task_of};
+    ghost use Rattle.ocl_sem.specs.Views.{IsLoopTask, task_of};
+
+    /// Whether it is of a loop.
+    pub fn is_of_loop(&self) -> bool
+        ensures of_loop { result ≡ true → IsLoopTask self.now }
+        ensures plain { result ≡ false → (scope : AnyScope) → marker_of (task_of scope self.now) ≡ Marker.Plain }
+    {
+        match self.marker() {
+            Marker::TurnEnd | Marker::TurnStart => true,
+            Marker::Plain | Marker::BodyEnd => false,
+        }
+    }
+
+    /// Whether it is the end of a turn.
+    pub fn is_turn_end(&self) -> bool
+        ensures end { result ≡ true → (scope : AnyScope) → marker_of (task_of scope self.now) ≡ Marker.TurnEnd }
+        ensures start { result ≡ false → IsLoopTask self.now → (scope : AnyScope) → marker_of (task_of scope self.now) ≡ Marker.TurnStart }
+    {
+        matches!(self.marker(), Marker::TurnEnd)
+    }
 
     /// What it is for a jump.
-    pub fn marker(&self) -> Marker
-        ensures { (scope : AnyScope) → marker_of (task_of scope self.now) ≡ result }
+    fn marker(&self) -> Marker
+        ensures marker { (scope : AnyScope) → marker_of (task_of scope self.now) ≡ result }
+        ensures inside { result ≢ Marker.BodyEnd }
     {
         match self {
             Task::Again(_) => Marker::TurnEnd,
