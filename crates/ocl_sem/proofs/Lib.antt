@@ -1,6 +1,6 @@
 mod WorkedItems
 pub mod Unfolding
-pub mod Statements
-pub mod Jumps
+pub mod StatementLaws
+pub mod JumpLaws
 pub mod Sizes
 pub mod InArrays

@@ -23,12 +23,6 @@ pub record Launched : Type 0 where
 abbrev pub launched_asks : Launched → ℕ → List ℕ → ℕ → Asked
 launched_asks l item answers fuel = kernel_asks l.program l.kernel l.range l.bounds item answers fuel
 
--- an item with the answers that it was given
-pub record ToldItem : Type 0 where
-  pub launched : Launched
-  pub item : ℕ
-  pub answers : List ℕ
-
 -- each array of the kernel ends within 2 ^ 32 bytes
 abbrev pub IsRoomy : FunctionNode → List Bound → Type 0
 IsRoomy kernel bounds = (array : ArrayRef) → (array_of kernel bounds array).count * elem_bytes (array_of kernel bounds array).elem ≤ 2 ^ 32

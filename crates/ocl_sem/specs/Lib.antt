@@ -5,3 +5,4 @@ pub mod Source
 pub mod Items
 pub mod Views
 pub mod Launched
+pub mod LaunchViews

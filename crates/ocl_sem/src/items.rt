@@ -1,37 +1,32 @@
 //! The work-items of a launch, and one of them.
+ghost use Rattle.ocl_program.specs.Shapes.{function_node};
+ghost use Rattle.ocl_sem.specs.Launched.{IsRoomy};
+
 use crate::frames::State;
 use crate::settings::Setting;
 use item_acts::{Asked, BoundList, ItemCode, Range};
 use ocl_program::TypedFunction;
 use std::alloc::{AllocError, Global};
-use std::marker::Model;
 use vx_base::Memory;
 
-/// All work-items of a launch of a kernel.
+/// All work-items of a launch of a kernel. Each array of the kernel has at most 2^32 bytes.
 #[derive(Drop)]
 pub struct Items<'a> {
-    program: &'a [TypedFunction],
-    kernel: &'a TypedFunction,
-    range: Range,
-    bounds: BoundList,
-}
-
-impl<'a> Model for Items<'a> {
-    ghost use Rattle.std.specs.Prelude.{map};
-    ghost use Rattle.ocl_program.specs.Shapes.{function_node};
-    ghost use Rattle.ocl_sem.specs.Launched.{IsRoomy, Launched};
-
-    ghost Value = { Launched };
-
-    ghost view = { λ items. record { program = map function_node items.program.now; kernel = function_node items.kernel.now; range = items.range; bounds = items.bounds } };
-
-    ghost invariant = { λ items. IsRoomy (function_node items.kernel.now) items.bounds };
+    /// The functions of the file.
+    pub program: &'a [TypedFunction],
+    /// The kernel.
+    pub kernel: &'a TypedFunction,
+    /// The work-items.
+    pub range: Range,
+    /// What the kernel's parameters stand for, in order.
+    pub bounds: BoundList,
+    ghost room: { IsRoomy (function_node kernel.now) bounds },
 }
 
 impl<'a> Items<'a> {
     ghost use Rattle.std.specs.Prelude.{◌≡◌, IfOk, map};
-    ghost use Rattle.ocl_program.specs.Shapes.{function_node};
-    ghost use Rattle.ocl_sem.specs.Launched.{IsRoomy, launched_asks};
+    ghost use Rattle.ocl_sem.specs.Launched.{Launched, launched_asks};
+    ghost use Rattle.ocl_sem.specs.LaunchViews.{launch_in};
 
     /// The items of a launch of a kernel, whose parameters stand for these bounds in order. Each array has at most 2^32
     /// bytes.
@@ -42,7 +37,7 @@ impl<'a> Items<'a> {
         bounds: BoundList,
     ) -> Items<'a>
         requires room { IsRoomy (function_node kernel.now) bounds }
-        ensures { result ≡ record { program = map function_node program.now; kernel = function_node kernel.now; range = range; bounds = bounds } }
+        ensures { launch_in result ≡ record { program = map function_node program.now; kernel = function_node kernel.now; range = range; bounds = bounds } }
     {
         Items {
             program,
@@ -60,7 +55,7 @@ impl<'a> Items<'a> {
         answers: &[u32],
         fuel: u64,
     ) -> Result<Asked, AllocError>
-        ensures { IfOk result (λ asked. asked ≡ launched_asks self.now item answers.now fuel) }
+        ensures { IfOk result (λ asked. asked ≡ launched_asks (launch_in self.now) item answers.now fuel) }
     {
         let at = Setting {
             kernel: self.kernel,
@@ -75,8 +70,9 @@ impl<'a> Items<'a> {
 
 impl<'a> ItemCode for Items<'a> {
     ghost use Rattle.ocl_sem.specs.Launched.{launched_asks, launched_settles};
+    ghost use Rattle.ocl_sem.specs.LaunchViews.{launch_in};
 
-    ghost next_of = { launched_asks };
+    ghost next_of = { λ items. launched_asks (launch_in items) };
 
     fn next(
         &self,
@@ -91,32 +87,30 @@ impl<'a> ItemCode for Items<'a> {
         }
     }
 
-    ghost settles = { launched_settles };
+    ghost settles = { λ items. launched_settles (launch_in items) };
 }
 
 /// A work-item of a launch, with the answers that it was given.
 #[derive(Drop)]
 pub struct Item<'a> {
-    items: Items<'a>,
-    item: u32,
-    answers: Vec<u32>,
-}
-
-impl<'a> Model for Item<'a> {
-    ghost use Rattle.ocl_sem.specs.Launched.{ToldItem};
-
-    ghost Value = { ToldItem };
-
-    ghost view = { λ it. record { launched = it.items; item = it.item; answers = it.answers.items } };
+    /// The launch.
+    pub items: Items<'a>,
+    /// Its number.
+    pub item: u32,
+    /// Its answers so far.
+    pub answers: Vec<u32>,
 }
 
 impl<'a> Item<'a> {
     ghost use Rattle.std.specs.Prelude.{◌≡◌, [], ◌∷◌, ◌++◌, IfOk, OnErr, OnOk};
     ghost use Rattle.ocl_sem.specs.Launched.{launched_asks};
+    ghost use Rattle.ocl_sem.specs.LaunchViews.{launch_in};
 
     /// The start of an item of a launch, without answers.
     pub fn start(alloc: Global, items: Items<'a>, item: u32) -> Item<'a>
-        ensures { result ≡ record { launched = items; item = item; answers = [] } }
+        ensures items { result.items ≡ items.entry }
+        ensures item { result.item ≡ item }
+        ensures answers { result.answers.items ≡ [] }
     {
         Item {
             items,
@@ -128,17 +122,17 @@ impl<'a> Item<'a> {
     /// What the item asks for after its answers so far, and `Running` exactly where `fuel` small steps do not lead to an
     /// action.
     pub fn next(&self, alloc: Global, fuel: u64) -> Result<Asked, Memory>
-        ensures { IfOk result (λ asked. asked ≡ launched_asks self.now.launched self.now.item self.now.answers fuel) }
+        ensures { IfOk result (λ asked. asked ≡ launched_asks (launch_in self.now.items) self.now.item self.now.answers.items fuel) }
     {
         self.items.next(alloc, self.item, self.answers.as_slice(), fuel)
     }
 
     /// Appends an answer. Where memory runs out, the item is as it was.
     pub fn told(&mut self, answer: u32) -> Result<(), Memory>
-        ensures launched { self.new.launched ≡ self.old.launched }
+        ensures items { self.new.items ≡ self.old.items }
         ensures item { self.new.item ≡ self.old.item }
-        ensures told { OnOk result (self.new.answers ≡ self.old.answers ++ answer ∷ []) }
-        ensures err { OnErr result (self.new.answers ≡ self.old.answers) }
+        ensures told { OnOk result (self.new.answers.items ≡ self.old.answers.items ++ answer ∷ []) }
+        ensures err { OnErr result (self.new.answers.items ≡ self.old.answers.items) }
     {
         match self.answers.push(answer) {
             Ok(()) => Ok(()),

@@ -3,7 +3,6 @@ ghost use Rattle.ocl_sem.specs.Launched.{StaysInArrays};
 
 /// Each load and store of an item is of an element that is there, at a multiple of the element's size, and no store is to
 /// an array that is readonly or `__constant`.
-#[tactic(auto, using(crate::proofs::InArrays::stays_in_arrays))]
 pub fn items_stay_in_arrays()
     ensures { StaysInArrays }
 {

@@ -3,8 +3,8 @@ ghost use Rattle.std.specs.Prelude.{◌≡◌, ℕ, suc, IfOk, OnOk, map};
 ghost use Rattle.item_acts.specs.Machine.{asked as asked_of, asked_at_once};
 ghost use Rattle.ocl_program.specs.Shapes.{function_node};
 ghost use Rattle.ocl_sem.specs.Items.{item_start};
-ghost use Rattle.ocl_sem.specs.Tasks.{holding, step as step_of_item};
-ghost use Rattle.ocl_sem.specs.Views.{HasRoom, parts_of, setting_in, state_of, told_value, went};
+ghost use Rattle.ocl_sem.specs.Tasks.{step as step_of_item};
+ghost use Rattle.ocl_sem.specs.Views.{Becomes, HasRoom, parts_of, setting_in, state_of, told_value, went, without_answers};
 
 use crate::frames::{Found, State};
 use crate::scopes::Scope;

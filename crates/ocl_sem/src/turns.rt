@@ -2,9 +2,9 @@
 ghost use Rattle.std.specs.Prelude.{◌≡◌, IfOk, OnOk, map};
 ghost use Rattle.ocl_program.specs.Shapes.{function_node, stmt_node};
 ghost use Rattle.ocl_sem.specs.Settings.{Setting as AnySetting};
-ghost use Rattle.ocl_sem.specs.Source.{stmt_tasks};
+ghost use Rattle.ocl_sem.specs.Source.{source_parts, stmt_tasks};
 ghost use Rattle.ocl_sem.specs.Tasks as task;
-ghost use Rattle.ocl_sem.specs.Tasks.{risen, task_step, under};
+ghost use Rattle.ocl_sem.specs.Tasks.{risen, task_step, turned, under};
 ghost use Rattle.ocl_sem.specs.Views.{Finds, Puts, body_of, loop_of, parts_of, scope_of, state_of, step_of};
 
 use crate::frames::{Found, State};
@@ -89,6 +89,19 @@ fn push_step<'a>(
     }
 }
 
+/// A turn of a loop.
+fn push_turn<'a>(
+    tasks: &mut Tasks<'a>,
+    program: &'a [TypedFunction],
+    scope: &Scope<'a>,
+    stmt: &'a TypedStmt,
+) -> Result<(), AllocError>
+    ensures { OnOk result (Puts (scope_of scope.now) tasks.old tasks.new (turned (source_parts (map function_node program.now)) (loop_of (scope_of scope.now) (stmt_node stmt.now)))) }
+{
+    tasks.push(Task::Again(stmt))?;
+    push_stmt(tasks, program, scope, body_in(stmt))
+}
+
 impl<'a> State<'a> {
     /// A turn of this loop begins where the value on top is not 0.
     pub fn decide(&mut self, stmt: &'a TypedStmt) -> Result<Found, AllocError>
@@ -98,15 +111,15 @@ impl<'a> State<'a> {
             leave_turns(&mut self.turns);
             return Ok(Found::Moved);
         }
-        self.begin(stmt)
+        push_turn(&mut self.tasks, self.program, &self.scope, stmt)?;
+        Ok(Found::Moved)
     }
 
     /// A turn of this loop begins.
     pub fn begin(&mut self, stmt: &'a TypedStmt) -> Result<Found, AllocError>
         ensures { IfOk result (λ found. (at : AnySetting) → Finds self.old self.new found (task_step (parts_of self.old) at (task.Begin (loop_of (scope_of self.old.scope) (stmt_node stmt.now))) (state_of self.old))) }
     {
-        self.tasks.push(Task::Again(stmt))?;
-        push_stmt(&mut self.tasks, self.program, &self.scope, body_in(stmt))?;
+        push_turn(&mut self.tasks, self.program, &self.scope, stmt)?;
         Ok(Found::Moved)
     }
 

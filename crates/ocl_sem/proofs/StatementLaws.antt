@@ -8,7 +8,7 @@ use Rattle.ocl_program.specs.Shapes.{node_of, stmt_node, typed_stmts}
 use Rattle.ocl_program.proofs.Rows.{block_node, for_node}
 use Rattle.ocl_sem.specs.Source.{Scope, SourceTask, stmt_tasks, stmts_tasks}
 use Rattle.ocl_sem.specs.declared.tasks.Task.{Task as HeldTask}
-use Rattle.ocl_sem.specs.Views.{Puts, branch_tasks, entered_tasks}
+use Rattle.ocl_sem.specs.Views.{Puts, branch_tasks, entered_tasks, step_of}
 
 -- tasks in front of others that are in front
 pub then_puts : {A E : Type 0} (r : Result A E) (scope : Scope) (before middle after : List HeldTask) (f g h : List SourceTask → List SourceTask)
@@ -36,16 +36,16 @@ for_tasks program scope stmt first test step body seen e e' ts =
     at_first ∙ ap (λ xs. stmts_tasks program scope (typed_stmts xs) (entered_tasks program scope (stmt_node stmt) ts)) (sym e')
 
 -- what an `if` is
-if_tasks_at : (program : List FunctionNode) (scope : Scope) (test : TypedExpr) (yes : Box TypedStmt Global) (no : Option (Box TypedStmt Global)) (ts : List SourceTask)
-    → stmt_tasks program scope (stmt_node (If test yes no)) ts ≡ branch_tasks program scope (node_of test) (stmt_node (If test yes no)) ts
-if_tasks_at program scope test yes None ts = refl
-if_tasks_at program scope test yes (Some other) ts = refl
+if_tasks_at : (program : List FunctionNode) (scope : Scope) (test : TypedExpr) (one : Box TypedStmt Global) (no : Option (Box TypedStmt Global)) (ts : List SourceTask)
+    → stmt_tasks program scope (stmt_node (If test one no)) ts ≡ branch_tasks program scope (node_of test) (stmt_node (If test one no)) ts
+if_tasks_at program scope test one None ts = refl
+if_tasks_at program scope test one (Some other) ts = refl
 
-pub if_tasks : (program : List FunctionNode) (scope : Scope) (stmt : TypedStmt) (test : TypedExpr) (yes : Box TypedStmt Global) (no : Option (Box TypedStmt Global)) → stmt ≡ If test yes no → (ts : List SourceTask)
+pub if_tasks : (program : List FunctionNode) (scope : Scope) (stmt : TypedStmt) (test : TypedExpr) (one : Box TypedStmt Global) (no : Option (Box TypedStmt Global)) → stmt ≡ If test one no → (ts : List SourceTask)
     → stmt_tasks program scope (stmt_node stmt) ts ≡ branch_tasks program scope (node_of test) (stmt_node stmt) ts
-if_tasks program scope stmt test yes no e ts =
+if_tasks program scope stmt test one no e ts =
     let P : TypedStmt → Type 0 = λ s. stmt_tasks program scope (stmt_node s) ts ≡ branch_tasks program scope (node_of test) (stmt_node s) ts in
-    subst P (sym e) (if_tasks_at program scope test yes no ts)
+    subst P (sym e) (if_tasks_at program scope test one no ts)
 
 -- one statement more, from the last to the first
 pub stmts_more : (program : List FunctionNode) (scope : Scope) (stmts : List TypedStmt) (i : ℕ) (s : TypedStmt) → 0 < i → i ≤ length stmts → s ≡ get_or stmts (i - 1) s
@@ -53,3 +53,10 @@ pub stmts_more : (program : List FunctionNode) (scope : Scope) (stmts : List Typ
 stmts_more program scope stmts i s p q e ts =
     let back : suc (i - 1) ≡ i = omega arith in
     ap (λ xs. stmts_tasks program scope (typed_stmts xs) ts) (drop-cons stmts (i - 1) s (omega arith) ∙ ap (λ x. x ∷ drop (suc (i - 1)) stmts) (sym e) ∙ ap (λ n. s ∷ drop n stmts) back)
+
+-- what runs behind the turns of a `for`
+pub step_of_for : (stmt : TypedStmt) (first : Vec TypedStmt Global) (test : Option TypedExpr) (step : Vec TypedStmt Global) (body : Box TypedStmt Global) (seen : List TypedStmt)
+    → stmt ≡ For first test step body → seen ≡ step.items → step_of (stmt_node stmt) ≡ BlockNode (typed_stmts seen)
+step_of_for stmt first test step body seen e e' =
+    let node : stmt_node stmt ≡ ForNode (typed_stmts first.items) (option_map node_of test) (typed_stmts step.items) (stmt_node body.value) = ap stmt_node e ∙ for_node first test step body in
+    ap step_of node ∙ ap (λ xs. BlockNode (typed_stmts xs)) (sym e')
