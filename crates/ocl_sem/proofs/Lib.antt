@@ -4,3 +4,4 @@ pub mod StatementLaws
 pub mod JumpLaws
 pub mod Sizes
 pub mod InArrays
+pub mod StepLaws

@@ -36,16 +36,16 @@ for_tasks program scope stmt first test step body seen e e' ts =
     at_first ∙ ap (λ xs. stmts_tasks program scope (typed_stmts xs) (entered_tasks program scope (stmt_node stmt) ts)) (sym e')
 
 -- what an `if` is
-if_tasks_at : (program : List FunctionNode) (scope : Scope) (test : TypedExpr) (one : Box TypedStmt Global) (no : Option (Box TypedStmt Global)) (ts : List SourceTask)
-    → stmt_tasks program scope (stmt_node (If test one no)) ts ≡ branch_tasks program scope (node_of test) (stmt_node (If test one no)) ts
+if_tasks_at : (program : List FunctionNode) (scope : Scope) (test : TypedExpr) (one : Box TypedStmt Global) (rest : Option (Box TypedStmt Global)) (ts : List SourceTask)
+    → stmt_tasks program scope (stmt_node (If test one rest)) ts ≡ branch_tasks program scope (node_of test) (stmt_node (If test one rest)) ts
 if_tasks_at program scope test one None ts = refl
 if_tasks_at program scope test one (Some other) ts = refl
 
-pub if_tasks : (program : List FunctionNode) (scope : Scope) (stmt : TypedStmt) (test : TypedExpr) (one : Box TypedStmt Global) (no : Option (Box TypedStmt Global)) → stmt ≡ If test one no → (ts : List SourceTask)
+pub if_tasks : (program : List FunctionNode) (scope : Scope) (stmt : TypedStmt) (test : TypedExpr) (one : Box TypedStmt Global) (rest : Option (Box TypedStmt Global)) → stmt ≡ If test one rest → (ts : List SourceTask)
     → stmt_tasks program scope (stmt_node stmt) ts ≡ branch_tasks program scope (node_of test) (stmt_node stmt) ts
-if_tasks program scope stmt test one no e ts =
+if_tasks program scope stmt test one rest e ts =
     let P : TypedStmt → Type 0 = λ s. stmt_tasks program scope (stmt_node s) ts ≡ branch_tasks program scope (node_of test) (stmt_node s) ts in
-    subst P (sym e) (if_tasks_at program scope test one no ts)
+    subst P (sym e) (if_tasks_at program scope test one rest ts)
 
 -- one statement more, from the last to the first
 pub stmts_more : (program : List FunctionNode) (scope : Scope) (stmts : List TypedStmt) (i : ℕ) (s : TypedStmt) → 0 < i → i ≤ length stmts → s ≡ get_or stmts (i - 1) s
