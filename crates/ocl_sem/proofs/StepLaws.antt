@@ -1,11 +1,11 @@
 -- The code's steps are the machine's.
 use Rattle.std.proofs.Common.{◌≡◌, ℕ, suc, ◌+◌, ◌-◌, ◌<◌, ◌≤◌, List, [], ◌∷◌, Result, Ok, Err, IfOk, refl, ap, sym, ◌∙◌, subst, arith}
 use Rattle.item_acts.specs.declared.acts.Asked.{Asked}
-use Rattle.item_acts.specs.Machine.{Step, Go, asked}
+use Rattle.item_acts.specs.Machine.{Step, Go, asked, asked_at_once}
 use Rattle.ocl_sem.specs.Items.{ItemState}
 use Rattle.ocl_sem.specs.Settings.{Setting}
-use Rattle.ocl_sem.specs.Source.{SourceTask}
-use Rattle.ocl_sem.specs.Tasks.{continued, left, onward, returned, step, step_from, task_step, turning}
+use Rattle.ocl_sem.specs.Source.{PlacedExpr, PlacedStmt, SourceTask}
+use Rattle.ocl_sem.specs.Tasks.{Parts, continued, left, onward, returned, step, step_from, task_step, turning}
 use Rattle.ocl_sem.specs.Views.{Finds, ReturnsTo, SkipsTo, left_call, parts_of, scope_of, state_of, task_of, tasks_in, tasks_onto, tasks_under}
 use Rattle.ocl_sem.specs.declared.frames.Found.{Found}
 use Rattle.ocl_sem.specs.declared.frames.Frame.{Frame}
@@ -101,3 +101,30 @@ pub run_done : (step_of : ItemState → Step ItemState) (fuel i : ℕ) (s : Item
 run_done step_of fuel i s rest whole a below e turn =
     let left_over : suc (fuel - (i + 1)) ≡ fuel - i = omega arith in
     sym (turn (fuel - (i + 1))) ∙ ap (λ n. asked step_of n s rest) left_over ∙ e
+
+pub run_more_as : (p q : Parts PlacedExpr PlacedStmt) (at : Setting) (fuel i : ℕ) (s s' : ItemState) (rest more : List ℕ) (whole : Asked) → p ≡ q → i < fuel
+    → asked (step q at) (fuel - i) s rest ≡ whole → ((n : ℕ) → asked (step p at) (suc n) s rest ≡ asked (step p at) n s' more) → asked (step q at) (fuel - (i + 1)) s' more ≡ whole
+run_more_as p q at fuel i s s' rest more whole same below e turn =
+    let P : Parts PlacedExpr PlacedStmt → Type 0 = λ r. (n : ℕ) → asked (step r at) (suc n) s rest ≡ asked (step r at) n s' more in
+    run_more (step q at) fuel i s s' rest more whole below e (subst P same turn)
+
+pub run_done_as : (p q : Parts PlacedExpr PlacedStmt) (at : Setting) (fuel i : ℕ) (s : ItemState) (rest : List ℕ) (whole a : Asked) → p ≡ q → i < fuel
+    → asked (step q at) (fuel - i) s rest ≡ whole → ((n : ℕ) → asked (step p at) (suc n) s rest ≡ a) → a ≡ whole
+run_done_as p q at fuel i s rest whole a same below e turn =
+    let P : Parts PlacedExpr PlacedStmt → Type 0 = λ r. (n : ℕ) → asked (step r at) (suc n) s rest ≡ a in
+    run_done (step q at) fuel i s rest whole a below e (subst P same turn)
+
+-- a run whose steps are all made
+pub run_end : {E : Type 0} (r : Result Asked E) (p q : Parts PlacedExpr PlacedStmt) (at : Setting) (fuel i : ℕ) (s : ItemState) (rest : List ℕ) (whole : Asked) → p ≡ q → fuel ≤ i
+    → asked (step q at) (fuel - i) s rest ≡ whole → IfOk r (λ a. a ≡ asked_at_once (step p at s) rest) → IfOk r (λ a. a ≡ whole)
+run_end (Ok a) p q at fuel i s rest whole same over e h =
+    let none : 0 ≡ fuel - i = omega arith in
+    h ∙ ap (λ r. asked_at_once (step r at s) rest) same ∙ ap (λ n. asked (step q at) n s rest) none ∙ e
+run_end (Err fault) p q at fuel i s rest whole same over e h = h
+
+-- the same run by other names
+pub asked_as : {E : Type 0} (r : Result Asked E) (p q : Parts PlacedExpr PlacedStmt) (at at' : Setting) (fuel : ℕ) (s s' : ItemState) (answers : List ℕ) → p ≡ q → at ≡ at' → s ≡ s'
+    → IfOk r (λ a. a ≡ asked (step p at) fuel s answers) → IfOk r (λ a. a ≡ asked (step q at') fuel s' answers)
+asked_as (Ok a) p q at at' fuel s s' answers e e' e'' h =
+    h ∙ ap (λ x. asked (step x at) fuel s answers) e ∙ ap (λ x. asked (step q x) fuel s answers) e' ∙ ap (λ x. asked (step q at') fuel x answers) e''
+asked_as (Err fault) p q at at' fuel s s' answers e e' e'' h = h
