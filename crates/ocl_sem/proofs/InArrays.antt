@@ -35,7 +35,7 @@ store_acts : {V T : Type 0} (at : Setting) (array : ArrayRef) (i v : ℕ) (pos :
 store_acts {V = V} {T = T} at array i v pos s =
     let P : Step (State V T) → Type 0 = λ x. ActsIn at x in
     cond_both (nat_lt i (at.array array).count) _ _ P
-      (λ e. cond_both (at.array array).writable _ _ P (λ e'. (array, (element_is at array i e, e'))) (λ _. tt)) (λ _. tt)
+    (λ e. cond_both (at.array array).writable _ _ P (λ e'. (array, (element_is at array i e, e'))) (λ _. tt)) (λ _. tt)
 
 task_acts : {V T : Type 0} (parts : Parts V T) (at : Setting) (t : Task V T) (s : State V T) → ActsIn at (task_step parts at t s)
 task_acts parts at (Number n) s = tt

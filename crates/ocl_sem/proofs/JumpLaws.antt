@@ -11,45 +11,50 @@ use Rattle.ocl_sem.specs.declared.tasks.Task.{Task as HeldTask}
 pub left_plain : (t : SourceTask) (ts : List SourceTask) (s : ItemState) → marker_of t ≡ Plain → left (t ∷ ts) s ≡ left ts s
 left_plain t ts s e =
     let after : Marker → ItemState = λ m. elim m [
-      Plain ↦ left ts s
+      | Plain ↦ left ts s
       | TurnEnd ↦ onward ts (turning (under s.turns) s)
       | TurnStart ↦ onward ts (turning (under s.turns) s)
-      | BodyEnd ↦ onward ts (holding (0 ∷ s.values) s) ] in
+      | BodyEnd ↦ onward ts (holding (0 ∷ s.values) s)
+    ] in
     ap after e
 
 pub continued_plain : (t : SourceTask) (ts : List SourceTask) (s : ItemState) → marker_of t ≡ Plain → continued (t ∷ ts) s ≡ continued ts s
 continued_plain t ts s e =
     let after : Marker → ItemState = λ m. elim m [
-      Plain ↦ continued ts s
+      | Plain ↦ continued ts s
       | TurnEnd ↦ onward (t ∷ ts) s
       | TurnStart ↦ onward ts (turning (under s.turns) s)
-      | BodyEnd ↦ onward ts (holding (0 ∷ s.values) s) ] in
+      | BodyEnd ↦ onward ts (holding (0 ∷ s.values) s)
+    ] in
     ap after e
 
 pub continued_end : (t : SourceTask) (ts : List SourceTask) (s : ItemState) → marker_of t ≡ TurnEnd → continued (t ∷ ts) s ≡ onward (t ∷ ts) s
 continued_end t ts s e =
     let after : Marker → ItemState = λ m. elim m [
-      Plain ↦ continued ts s
+      | Plain ↦ continued ts s
       | TurnEnd ↦ onward (t ∷ ts) s
       | TurnStart ↦ onward ts (turning (under s.turns) s)
-      | BodyEnd ↦ onward ts (holding (0 ∷ s.values) s) ] in
+      | BodyEnd ↦ onward ts (holding (0 ∷ s.values) s)
+    ] in
     ap after e
 
 pub continued_start : (t : SourceTask) (ts : List SourceTask) (s : ItemState) → marker_of t ≡ TurnStart → continued (t ∷ ts) s ≡ onward ts (turning (under s.turns) s)
 continued_start t ts s e =
     let after : Marker → ItemState = λ m. elim m [
-      Plain ↦ continued ts s
+      | Plain ↦ continued ts s
       | TurnEnd ↦ onward (t ∷ ts) s
       | TurnStart ↦ onward ts (turning (under s.turns) s)
-      | BodyEnd ↦ onward ts (holding (0 ∷ s.values) s) ] in
+      | BodyEnd ↦ onward ts (holding (0 ∷ s.values) s)
+    ] in
     ap after e
 
 left_at : (m : Marker) → IsLoopMarker m → (ts : List SourceTask) (s : ItemState)
     → (elim m [
-      Plain ↦ left ts s
+      | Plain ↦ left ts s
       | TurnEnd ↦ onward ts (turning (under s.turns) s)
       | TurnStart ↦ onward ts (turning (under s.turns) s)
-      | BodyEnd ↦ onward ts (holding (0 ∷ s.values) s) ]) ≡ onward ts (turning (under s.turns) s)
+      | BodyEnd ↦ onward ts (holding (0 ∷ s.values) s)
+    ]) ≡ onward ts (turning (under s.turns) s)
 left_at Plain h ts s = absurd h
 left_at TurnEnd h ts s = refl
 left_at TurnStart h ts s = refl
@@ -60,10 +65,11 @@ left_loop t ts s h = left_at (marker_of t) h ts s
 
 returned_at : (m : Marker) → IsLoopMarker m → (ts : List SourceTask) (s : ItemState)
     → (elim m [
-      Plain ↦ returned ts s
+      | Plain ↦ returned ts s
       | TurnEnd ↦ returned ts (turning (under s.turns) s)
       | TurnStart ↦ returned ts (turning (under s.turns) s)
-      | BodyEnd ↦ onward ts s ]) ≡ returned ts (turning (under s.turns) s)
+      | BodyEnd ↦ onward ts s
+    ]) ≡ returned ts (turning (under s.turns) s)
 returned_at Plain h ts s = absurd h
 returned_at TurnEnd h ts s = refl
 returned_at TurnStart h ts s = refl
@@ -75,10 +81,11 @@ returned_loop t ts s h = returned_at (marker_of t) h ts s
 pub returned_plain : (t : SourceTask) (ts : List SourceTask) (s : ItemState) → marker_of t ≡ Plain → returned (t ∷ ts) s ≡ returned ts s
 returned_plain t ts s e =
     let after : Marker → ItemState = λ m. elim m [
-      Plain ↦ returned ts s
+      | Plain ↦ returned ts s
       | TurnEnd ↦ returned ts (turning (under s.turns) s)
       | TurnStart ↦ returned ts (turning (under s.turns) s)
-      | BodyEnd ↦ onward ts s ] in
+      | BodyEnd ↦ onward ts s
+    ] in
     ap after e
 
 -- one task more that is skipped

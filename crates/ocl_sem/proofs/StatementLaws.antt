@@ -1,26 +1,20 @@
 -- Statements as tasks.
-use Rattle.std.proofs.Common.{◌≡◌, ℕ, suc, ◌-◌, ◌<◌, ◌≤◌, List, ◌∷◌, Option, None, Some, Result, Ok, Err, OnOk, Vec, Box, Global, length, drop, get_or, refl, ap, sym, ◌∙◌, subst, arith, drop-cons}
+use Rattle.std.proofs.Common.{◌≡◌, List, Option, Result, Ok, Err, OnOk, Vec, Box, Global, refl, ap, sym, ◌∙◌, subst}
 use Rattle.std.specs.Option.{option_map}
 use Rattle.ocl_program.specs.declared.exprs.TypedExpr.{TypedExpr}
-use Rattle.ocl_program.specs.declared.stmts.TypedStmt.{TypedStmt, If, For, Block}
+use Rattle.ocl_program.specs.declared.stmts.TypedStmt.{TypedStmt, For, Block}
 use Rattle.ocl_program.specs.Nodes.{FunctionNode, StmtNode, BlockNode, ForNode}
 use Rattle.ocl_program.specs.Shapes.{node_of, stmt_node, typed_stmts}
 use Rattle.ocl_program.proofs.Rows.{block_node, for_node}
 use Rattle.ocl_sem.specs.Source.{Scope, SourceTask, stmt_tasks, stmts_tasks}
 use Rattle.ocl_sem.specs.declared.tasks.Task.{Task as HeldTask}
-use Rattle.ocl_sem.specs.Views.{Puts, branch_tasks, entered_tasks, step_of}
+use Rattle.ocl_sem.specs.Views.{Puts, entered_tasks, step_of}
 
 -- tasks in front of others that are in front
 pub then_puts : {A E : Type 0} (r : Result A E) (scope : Scope) (before middle after : List HeldTask) (f g h : List SourceTask → List SourceTask)
     → OnOk r (Puts scope middle after f) → Puts scope before middle g → ((ts : List SourceTask) → h ts ≡ f (g ts)) → OnOk r (Puts scope before after h)
 then_puts (Ok x) scope before middle after f g h p q e = λ rest. p rest ∙ ap f (q rest) ∙ sym (e _)
 then_puts (Err x) scope before middle after f g h p q e = p
-
--- the same tasks by another name
-pub same_puts : {A E : Type 0} (r : Result A E) (scope : Scope) (before after : List HeldTask) (f h : List SourceTask → List SourceTask)
-    → OnOk r (Puts scope before after f) → ((ts : List SourceTask) → h ts ≡ f ts) → OnOk r (Puts scope before after h)
-same_puts (Ok x) scope before after f h p e = λ rest. p rest ∙ sym (e _)
-same_puts (Err x) scope before after f h p e = p
 
 pub node_of_block : (stmt : TypedStmt) (items : Vec TypedStmt Global) (seen : List TypedStmt) → stmt ≡ Block items → seen ≡ items.items → stmt_node stmt ≡ BlockNode (typed_stmts seen)
 node_of_block stmt items seen e e' = ap stmt_node e ∙ block_node items ∙ ap (λ xs. BlockNode (typed_stmts xs)) (sym e')
@@ -34,25 +28,6 @@ for_tasks program scope stmt first test step body seen e e' ts =
     let P : StmtNode → Type 0 = λ n. stmt_tasks program scope n ts ≡ stmts_tasks program scope (typed_stmts first.items) (entered_tasks program scope n ts) in
     let at_first : stmt_tasks program scope (stmt_node stmt) ts ≡ stmts_tasks program scope (typed_stmts first.items) (entered_tasks program scope (stmt_node stmt) ts) = subst P (sym node) refl in
     at_first ∙ ap (λ xs. stmts_tasks program scope (typed_stmts xs) (entered_tasks program scope (stmt_node stmt) ts)) (sym e')
-
--- what an `if` is
-if_tasks_at : (program : List FunctionNode) (scope : Scope) (test : TypedExpr) (one : Box TypedStmt Global) (rest : Option (Box TypedStmt Global)) (ts : List SourceTask)
-    → stmt_tasks program scope (stmt_node (If test one rest)) ts ≡ branch_tasks program scope (node_of test) (stmt_node (If test one rest)) ts
-if_tasks_at program scope test one None ts = refl
-if_tasks_at program scope test one (Some other) ts = refl
-
-pub if_tasks : (program : List FunctionNode) (scope : Scope) (stmt : TypedStmt) (test : TypedExpr) (one : Box TypedStmt Global) (rest : Option (Box TypedStmt Global)) → stmt ≡ If test one rest → (ts : List SourceTask)
-    → stmt_tasks program scope (stmt_node stmt) ts ≡ branch_tasks program scope (node_of test) (stmt_node stmt) ts
-if_tasks program scope stmt test one rest e ts =
-    let P : TypedStmt → Type 0 = λ s. stmt_tasks program scope (stmt_node s) ts ≡ branch_tasks program scope (node_of test) (stmt_node s) ts in
-    subst P (sym e) (if_tasks_at program scope test one rest ts)
-
--- one statement more, from the last to the first
-pub stmts_more : (program : List FunctionNode) (scope : Scope) (stmts : List TypedStmt) (i : ℕ) (s : TypedStmt) → 0 < i → i ≤ length stmts → s ≡ get_or stmts (i - 1) s
-    → (ts : List SourceTask) → stmts_tasks program scope (typed_stmts (drop (i - 1) stmts)) ts ≡ stmt_tasks program scope (stmt_node s) (stmts_tasks program scope (typed_stmts (drop i stmts)) ts)
-stmts_more program scope stmts i s p q e ts =
-    let back : suc (i - 1) ≡ i = omega arith in
-    ap (λ xs. stmts_tasks program scope (typed_stmts xs) ts) (drop-cons stmts (i - 1) s (omega arith) ∙ ap (λ x. x ∷ drop (suc (i - 1)) stmts) (sym e) ∙ ap (λ n. s ∷ drop n stmts) back)
 
 -- what runs behind the turns of a `for`
 pub step_of_for : (stmt : TypedStmt) (first : Vec TypedStmt Global) (test : Option TypedExpr) (step : Vec TypedStmt Global) (body : Box TypedStmt Global) (seen : List TypedStmt)

@@ -81,7 +81,7 @@ pub returned_out : (before : State) (turns : List ℕ) (callers : List Frame) (n
     → returned (tasks_in before) (state_of before) ≡ onward (tasks_onto (scope_of before.scope) none (tasks_under callers)) (turning turns (state_of before))
 returned_out before turns callers none returns e e' e'' =
     let done : tasks_onto (scope_of before.scope) none (tasks_under callers) ≡ [] =
-          ap (λ ts. tasks_onto (scope_of before.scope) ts (tasks_under callers)) e'' ∙ ap tasks_under e' in
+    ap (λ ts. tasks_onto (scope_of before.scope) ts (tasks_under callers)) e'' ∙ ap tasks_under e' in
     returns (scope_of before.scope) (tasks_under before.callers) (state_of before)
     ∙ ap (λ frames. returned (tasks_under frames) (turning turns (state_of before))) e
     ∙ ap (λ us. onward us (turning turns (state_of before))) (sym done)

@@ -253,10 +253,10 @@ collatz =
     DeclareNode 0 Int (Some (element own_id 20)) ∷
     DeclareNode 1 Int (Some (number 0)) ∷
     WhileNode (BinaryNode Ne false (x_at 0) (number 1)) (BlockNode (stmt_nodes (
-      IfElseNode (BinaryNode Rem false (x_at 0) (number 2))
-        (SetVariableNode 0 Int Set false (Some (BinaryNode Add false (BinaryNode Mul false (number 3) (x_at 0)) (number 1))))
-        (SetVariableNode 0 Int Set false (Some (BinaryNode Div false (x_at 0) (number 2)))) ∷
-      SetVariableNode 1 Int Up false None ∷ []))) ∷
+    IfElseNode (BinaryNode Rem false (x_at 0) (number 2))
+    (SetVariableNode 0 Int Set false (Some (BinaryNode Add false (BinaryNode Mul false (number 3) (x_at 0)) (number 1))))
+    (SetVariableNode 0 Int Set false (Some (BinaryNode Div false (x_at 0) (number 2)))) ∷
+    SetVariableNode 1 Int Up false None ∷ []))) ∷
     sets own_id (x_at 1) 90 ∷ []
 
 -- 6, 3, 10, 5, 16, 8, 4, 2, 1
@@ -279,17 +279,17 @@ no_return = refl
 -- `int i; for (i = 0;; i++) if (i == 3) break; a[0] = i;`
 left_by_break : asks [] []
     (DeclareNode 0 Int None ∷
-     ForNode (stmt_nodes (SetVariableNode 0 Int Set false (Some (number 0)) ∷ [])) None (stmt_nodes (SetVariableNode 0 Int Up false None ∷ []))
-       (IfNode (BinaryNode Eq false (x_at 0) (number 3)) BreakNode) ∷
-     first_is (x_at 0) ∷ []) 0 [] 100 ≡ stores 0 3
+    ForNode (stmt_nodes (SetVariableNode 0 Int Set false (Some (number 0)) ∷ [])) None (stmt_nodes (SetVariableNode 0 Int Up false None ∷ []))
+    (IfNode (BinaryNode Eq false (x_at 0) (number 3)) BreakNode) ∷
+    first_is (x_at 0) ∷ []) 0 [] 100 ≡ stores 0 3
 left_by_break = refl
 
 -- `int s = 0; for (int i = 0; i < 5; i++) { if (i == 1) continue; s += i; } a[0] = s;` runs the step behind `continue`
 continued_loop : asks [] []
     (DeclareNode 0 Int (Some (number 0)) ∷
-     ForNode (stmt_nodes (DeclareNode 1 Int (Some (number 0)) ∷ [])) (Some (BinaryNode Lt false (x_at 1) (number 5))) (stmt_nodes (SetVariableNode 1 Int Up false None ∷ []))
-       (BlockNode (stmt_nodes (IfNode (BinaryNode Eq false (x_at 1) (number 1)) ContinueNode ∷ SetVariableNode 0 Int (With Add) false (Some (x_at 1)) ∷ []))) ∷
-     first_is (x_at 0) ∷ []) 0 [] 200 ≡ stores 0 9
+    ForNode (stmt_nodes (DeclareNode 1 Int (Some (number 0)) ∷ [])) (Some (BinaryNode Lt false (x_at 1) (number 5))) (stmt_nodes (SetVariableNode 1 Int Up false None ∷ []))
+    (BlockNode (stmt_nodes (IfNode (BinaryNode Eq false (x_at 1) (number 1)) ContinueNode ∷ SetVariableNode 0 Int (With Add) false (Some (x_at 1)) ∷ []))) ∷
+    first_is (x_at 0) ∷ []) 0 [] 200 ≡ stores 0 9
 continued_loop = refl
 
 -- `do i++; while (i < 1); a[0] = i;` has one turn at least
@@ -299,7 +299,7 @@ do_once = refl
 -- a variable is 0 each time its declaration is met: `for (int i = 0; i < 2; i++) { int x; x += 1; a[0] = x; }`
 declared_anew : asks [] []
     (ForNode (stmt_nodes (DeclareNode 0 Int (Some (number 0)) ∷ [])) (Some (BinaryNode Lt false (x_at 0) (number 2))) (stmt_nodes (SetVariableNode 0 Int Up false None ∷ []))
-       (BlockNode (stmt_nodes (DeclareNode 1 Int None ∷ SetVariableNode 1 Int (With Add) false (Some (number 1)) ∷ first_is (x_at 1) ∷ []))) ∷ []) 0 (0 ∷ []) 100 ≡ stores 0 1
+    (BlockNode (stmt_nodes (DeclareNode 1 Int None ∷ SetVariableNode 1 Int (With Add) false (Some (number 1)) ∷ first_is (x_at 1) ∷ []))) ∷ []) 0 (0 ∷ []) 100 ≡ stores 0 1
 declared_anew = refl
 
 -- ---- barriers
@@ -309,9 +309,9 @@ abbrev nested : List StmtNode
 nested =
     DeclareNode 0 Int None ∷
     WhileNode (BinaryNode Lt false (x_at 0) (number 2)) (BlockNode (stmt_nodes (
-      DeclareNode 1 Int None ∷
-      DoNode (BlockNode (stmt_nodes (BarrierNode 0 ∷ SetVariableNode 1 Int Up false None ∷ []))) (BinaryNode Lt false (x_at 1) (number 2)) ∷
-      SetVariableNode 0 Int Up false None ∷ []))) ∷
+    DeclareNode 1 Int None ∷
+    DoNode (BlockNode (stmt_nodes (BarrierNode 0 ∷ SetVariableNode 1 Int Up false None ∷ []))) (BinaryNode Lt false (x_at 1) (number 2)) ∷
+    SetVariableNode 0 Int Up false None ∷ []))) ∷
     BarrierNode 1 ∷ []
 
 abbrev waits : ℕ → List ℕ → Asked
@@ -381,7 +381,7 @@ fault_in_helper = refl
 
 -- a scalar parameter is bound by its type, and its variable stands before those that are declared
 bound_by_type : kernel_asks [] (kernel_of (scalar_param Uchar ∷ array_param Int ∷ scalar_param Int ∷ []) []
-      (SetElementNode (Parameter 1) Int (x_at 1) Set false (Some (VariableNode 0 Uchar)) (at 3) ∷ [])) eight (BoundValue 300 ∷ Array 6 4 ∷ BoundValue 2 ∷ []) 0 [] 20
+    (SetElementNode (Parameter 1) Int (x_at 1) Set false (Some (VariableNode 0 Uchar)) (at 3) ∷ [])) eight (BoundValue 300 ∷ Array 6 4 ∷ BoundValue 2 ∷ []) 0 [] 20
     ≡ Act (Store (Global 6 8) Four 44)
 bound_by_type = refl
 

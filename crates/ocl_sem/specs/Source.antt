@@ -107,7 +107,7 @@ callee_of program (Some site) = slice_get program site.callee
 abbrev pub call_tasks : Scope → Option CallSite → Option FunctionNode → ArgNodes → (ℕ → List Param → List SourceTask → List SourceTask) → List SourceTask → List SourceTask
 call_tasks scope (Some site) (Some callee) args binding ts =
     binding (scope_at scope site callee args).variables callee.params
-      (task.Invoke (record { scope = scope_at scope site callee args; stmt = BlockNode callee.body }) ∷ ts)
+    (task.Invoke (record { scope = scope_at scope site callee args; stmt = BlockNode callee.body }) ∷ ts)
 call_tasks scope site callee args binding ts = task.Number 0 ∷ ts
 
 -- ---- expressions
@@ -125,7 +125,7 @@ abbrev mutual
       value_tasks program scope test (task.Choose (record { scope = scope; expr = one }) (record { scope = scope; expr = other }) ∷ ts)
   value_tasks program scope (CastNode elem part) ts = value_tasks program scope part (task.Fit elem ∷ ts)
   value_tasks program scope (LoadNode array elem place pos) ts = value_tasks program scope place (task.Load (array_in scope array) pos ∷ ts)
-  value_tasks program scope (CallNode call args) ts = 
+  value_tasks program scope (CallNode call args) ts =
       call_tasks scope (site_of scope call) (callee_of program (site_of scope call)) args (λ first params. args_tasks program scope first params 0 args) ts
   value_tasks program scope (BuiltinNode which unsigned args) ts = values_tasks program scope args (task.Call which unsigned ∷ ts)
   value_tasks program scope (ParenNode part) ts = value_tasks program scope part ts
@@ -201,7 +201,7 @@ abbrev mutual
       assigned_tasks op unsigned (task.Variable (variable_in scope variable)) (operand_tasks program scope value) (task.Assign (variable_in scope variable) elem ∷ ts)
   stmt_tasks program scope (SetElementNode array elem place op unsigned value pos) ts =
       value_tasks program scope place
-        (assigned_tasks op unsigned (task.Reread (array_in scope array) pos) (operand_tasks program scope value) (task.Store (array_in scope array) pos ∷ ts))
+      (assigned_tasks op unsigned (task.Reread (array_in scope array) pos) (operand_tasks program scope value) (task.Store (array_in scope array) pos ∷ ts))
   stmt_tasks program scope (CallStmtNode call) ts = value_tasks program scope call (task.Discard ∷ ts)
   stmt_tasks program scope (BarrierNode site) ts = task.Wait (site_in scope site) ∷ ts
   stmt_tasks program scope (IfNode test one) ts = value_tasks program scope test (task.Branch (record { scope = scope; stmt = one }) None ∷ ts)

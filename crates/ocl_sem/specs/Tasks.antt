@@ -124,28 +124,31 @@ marker_of t = Plain
 abbrev pub returned : {V T : Type 0} → List (Task V T) → State V T → State V T
 returned [] s = onward [] s
 returned (t ∷ ts) s = elim (marker_of t) [
-  Plain ↦ returned ts s
+  | Plain ↦ returned ts s
   | TurnEnd ↦ returned ts (turning (under s.turns) s)
   | TurnStart ↦ returned ts (turning (under s.turns) s)
-  | BodyEnd ↦ onward ts s ]
+  | BodyEnd ↦ onward ts s
+]
 
 -- `break`: out of the innermost loop. Outside every loop of a call, where no accepted program has one, it is a `return`.
 abbrev pub left : {V T : Type 0} → List (Task V T) → State V T → State V T
 left [] s = onward [] s
 left (t ∷ ts) s = elim (marker_of t) [
-  Plain ↦ left ts s
+  | Plain ↦ left ts s
   | TurnEnd ↦ onward ts (turning (under s.turns) s)
   | TurnStart ↦ onward ts (turning (under s.turns) s)
-  | BodyEnd ↦ onward ts (holding (0 ∷ s.values) s) ]
+  | BodyEnd ↦ onward ts (holding (0 ∷ s.values) s)
+]
 
 -- `continue`: to the end of the turn
 abbrev pub continued : {V T : Type 0} → List (Task V T) → State V T → State V T
 continued [] s = onward [] s
 continued (t ∷ ts) s = elim (marker_of t) [
-  Plain ↦ continued ts s
+  | Plain ↦ continued ts s
   | TurnEnd ↦ onward (t ∷ ts) s
   | TurnStart ↦ onward ts (turning (under s.turns) s)
-  | BodyEnd ↦ onward ts (holding (0 ∷ s.values) s) ]
+  | BodyEnd ↦ onward ts (holding (0 ∷ s.values) s)
+]
 
 -- ---- steps
 
@@ -181,8 +184,8 @@ low_bytes elem v = v % 2 ^ (8 * elem_bytes elem)
 abbrev pub store_step : {V T : Type 0} → ℕ → ItemArray → ℕ → ℕ → Pos → State V T → Step (State V T)
 store_step group array i v pos s =
     if nat_lt i array.count then
-      (if array.writable then Ask (StoreAction (element_in group array i) (elem_size array.elem) (low_bytes array.elem v)) (λ answer. s)
-      else Go s)
+    (if array.writable then Ask (StoreAction (element_in group array i) (elem_size array.elem) (low_bytes array.elem v)) (λ answer. s)
+    else Go s)
     else Stop (Fault pos)
 
 -- a loop before its test

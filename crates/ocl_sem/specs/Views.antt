@@ -183,8 +183,8 @@ found_load at array i pos =
 abbrev pub found_store : Setting → ArrayRef → ℕ → ℕ → Pos → Found
 found_store at array i v pos =
     if nat_lt i (at.array array).count then
-      (if (at.array array).writable then Asks (StoreAction (element_in at.group (at.array array) i) (elem_size (at.array array).elem) (task.low_bytes (at.array array).elem v)) None
-      else Moved)
+    (if (at.array array).writable then Asks (StoreAction (element_in at.group (at.array array) i) (elem_size (at.array array).elem) (task.low_bytes (at.array array).elem v)) None
+    else Moved)
     else Stops (Fault pos)
 
 -- each array of the launch ends within 2 ^ 32 bytes

@@ -42,11 +42,7 @@ impl<'a> State<'a> {
     }
 
     /// The second or the third part of `?:`.
-    pub fn choose(
-        &mut self,
-        one: &'a TypedExpr,
-        other: &'a TypedExpr,
-    ) -> Result<Found, AllocError>
+    pub fn choose(&mut self, one: &'a TypedExpr, other: &'a TypedExpr) -> Result<Found, AllocError>
         ensures { IfOk result (λ found. (at : AnySetting) → Finds self.old self.new found (task_step (parts_of self.old) at (task.Choose (placed_expr (scope_of self.old.scope) (node_of one.now)) (placed_expr (scope_of self.old.scope) (node_of other.now))) (state_of self.old))) }
     {
         if take(&mut self.values) == 0 {

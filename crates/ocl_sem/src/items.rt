@@ -74,13 +74,7 @@ impl<'a> ItemCode for Items<'a> {
 
     ghost next_of = { λ items. launched_asks (launch_in items) };
 
-    fn next(
-        &self,
-        alloc: Global,
-        item: u32,
-        answers: &[u32],
-        fuel: u64,
-    ) -> Result<Asked, Memory> {
+    fn next(&self, alloc: Global, item: u32, answers: &[u32], fuel: u64) -> Result<Asked, Memory> {
         match self.asked(alloc, item, answers, fuel) {
             Ok(asked) => Ok(asked),
             Err(_) => Err(Memory),
@@ -124,7 +118,8 @@ impl<'a> Item<'a> {
     pub fn next(&self, alloc: Global, fuel: u64) -> Result<Asked, Memory>
         ensures { IfOk result (λ asked. asked ≡ launched_asks (launch_in self.now.items) self.now.item self.now.answers.items fuel) }
     {
-        self.items.next(alloc, self.item, self.answers.as_slice(), fuel)
+        self.items
+            .next(alloc, self.item, self.answers.as_slice(), fuel)
     }
 
     /// Appends an answer. Where memory runs out, the item is as it was.

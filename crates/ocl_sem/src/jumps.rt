@@ -81,7 +81,12 @@ impl<'a> State<'a> {
     {
         let scope = self.scope.inner(alloc, callee, args)?;
         let mut tasks = Stack::new(alloc);
-        push_stmts(&mut tasks, self.program, &scope, callee.function.body.as_slice())?;
+        push_stmts(
+            &mut tasks,
+            self.program,
+            &scope,
+            callee.function.body.as_slice(),
+        )?;
         let caller = Frame {
             scope: mem::replace(&mut self.scope, scope),
             tasks: mem::replace(&mut self.tasks, tasks),

@@ -5,5 +5,4 @@ ghost use Rattle.ocl_sem.specs.Launched.{StaysInArrays};
 /// an array that is readonly or `__constant`.
 pub fn items_stay_in_arrays()
     ensures { StaysInArrays }
-{
-}
+{}

@@ -98,7 +98,12 @@ impl<'a> Setting<'a> {
     fn group_id(&self, d: u32) -> u32
         ensures { result ≡ group_id self.now.range self.now.item d }
     {
-        coordinate(groups_in(self.range, 0), groups_in(self.range, 1), self.group(), d)
+        coordinate(
+            groups_in(self.range, 0),
+            groups_in(self.range, 1),
+            self.group(),
+            d,
+        )
     }
 
     /// The number of the item in its group in a dimension.
@@ -108,7 +113,12 @@ impl<'a> Setting<'a> {
     {
         let first = size_in(self.range, self.range.local, 0);
         let second = size_in(self.range, self.range.local, 1);
-        coordinate(first, second, remainder(self.item, group_size(self.range)), d)
+        coordinate(
+            first,
+            second,
+            remainder(self.item, group_size(self.range)),
+            d,
+        )
     }
 
     /// The number of the item in a dimension.

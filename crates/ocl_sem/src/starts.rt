@@ -26,11 +26,7 @@ pub fn bound_values(
 }
 
 /// The value of a parameter, where it is a scalar.
-fn push_bound_value(
-    values: &mut Vec<u32>,
-    kind: ParamKind,
-    bound: Bound,
-) -> Result<(), AllocError>
+fn push_bound_value(values: &mut Vec<u32>, kind: ParamKind, bound: Bound) -> Result<(), AllocError>
     ensures { OnOk result (values.new.items ≡ values.old.items ++ with_value kind bound []) }
 {
     match kind {

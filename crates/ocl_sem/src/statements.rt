@@ -27,7 +27,14 @@ pub fn push_stmt<'a>(
             variable,
             elem,
             value,
-        } => push_declaration(tasks, program, scope, scope.variable(*variable), *elem, value),
+        } => push_declaration(
+            tasks,
+            program,
+            scope,
+            scope.variable(*variable),
+            *elem,
+            value,
+        ),
         TypedStmt::SetVariable {
             variable,
             elem,
@@ -40,7 +47,15 @@ pub fn push_stmt<'a>(
                 variable,
                 elem: *elem,
             })?;
-            push_assigned(tasks, program, scope, *op, *unsigned, Task::Variable(variable), value)
+            push_assigned(
+                tasks,
+                program,
+                scope,
+                *op,
+                *unsigned,
+                Task::Variable(variable),
+                value,
+            )
         }
         TypedStmt::SetElement {
             array,
@@ -54,7 +69,15 @@ pub fn push_stmt<'a>(
             let array = scope.array(*array);
             let pos = *pos;
             tasks.push(Task::Store { array, pos })?;
-            push_assigned(tasks, program, scope, *op, *unsigned, Task::Reread { array, pos }, value)?;
+            push_assigned(
+                tasks,
+                program,
+                scope,
+                *op,
+                *unsigned,
+                Task::Reread { array, pos },
+                value,
+            )?;
             push_value(tasks, program, scope, place)
         }
         TypedStmt::Call(call) => {

@@ -43,9 +43,8 @@ fn body_in(stmt: &TypedStmt) -> &TypedStmt
     ensures { stmt_node result.now ≡ body_of (stmt_node stmt.now) }
 {
     match stmt {
-        TypedStmt::While { body, .. }
-        | TypedStmt::Do { body, .. }
-        | TypedStmt::For { body, .. } => body,
+        TypedStmt::While { body, .. } | TypedStmt::Do { body, .. } | TypedStmt::For { body, .. } =>
+            body,
         TypedStmt::Declare { .. }
         | TypedStmt::LocalArray { .. }
         | TypedStmt::SetVariable { .. }

@@ -69,7 +69,10 @@ pub fn push_value<'a>(
             push_value(tasks, program, scope, part)
         }
         TypedExpr::Load {
-            array, place, pos, ..
+            array,
+            place,
+            pos,
+            ..
         } => {
             tasks.push(Task::Load {
                 array: scope.array(*array),
@@ -217,7 +220,11 @@ fn variable_at(first: u32, params: &[Param], k: usize) -> u32
 fn scalars_before(params: &[Param], k: usize) -> usize
     ensures { result ≡ count_by is_scalar_of (take k params.now) }
 {
-    params.iter().take(k).filter(|param| is_scalar(param)).count()
+    params
+        .iter()
+        .take(k)
+        .filter(|param| is_scalar(param))
+        .count()
 }
 
 /// A number cut at 2^32 - 1.

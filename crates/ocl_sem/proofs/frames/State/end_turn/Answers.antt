@@ -10,5 +10,5 @@ returns-in_default c =
     let before = c.args.self.now in
     let mid = record before { tasks = c.find_loop.new.tasks } in
     finds_any c.leave_outside.result before mid c.leave_outside.new.self
-      (Go (continued (tasks_in before) (state_of before))) (Go (continued (tasks_under before.callers) (state_of mid)))
-      (ap Go (continued_outside before c.find_loop.new.tasks c.in_default.ensures.1)) refl c.leave_outside.ensures.continued
+    (Go (continued (tasks_in before) (state_of before))) (Go (continued (tasks_under before.callers) (state_of mid)))
+    (ap Go (continued_outside before c.find_loop.new.tasks c.in_default.ensures.1)) refl c.leave_outside.ensures.continued

@@ -10,5 +10,5 @@ returns-in-None c =
     let before = c.args.self.now in
     let mid = record before { tasks = c.find_loop.new.tasks } in
     finds_any c.leave_outside.result before mid c.leave_outside.new.self
-      (Go (left (tasks_in before) (state_of before))) (Go (left (tasks_under before.callers) (state_of mid)))
-      (ap Go (left_outside before c.find_loop.new.tasks c.in-None.ensures.1)) refl c.leave_outside.ensures.left
+    (Go (left (tasks_in before) (state_of before))) (Go (left (tasks_under before.callers) (state_of mid)))
+    (ap Go (left_outside before c.find_loop.new.tasks c.in-None.ensures.1)) refl c.leave_outside.ensures.left

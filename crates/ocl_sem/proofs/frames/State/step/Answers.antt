@@ -9,5 +9,5 @@ returns-in-None c =
     let before = c.args.self.now in
     let mid = record before { tasks = c.pop.new.self } in
     finds_as c.leave.result before mid c.leave.new.self
-      (step (parts_of before) (setting_in c.args.at.now) (state_of before)) (left_call (tasks_under before.callers) (state_of mid))
-      (step_end before (setting_in c.args.at.now) c.pop.new.self c.in-None.ensures.0 c.in-None.ensures.1) refl c.leave.ensures
+    (step (parts_of before) (setting_in c.args.at.now) (state_of before)) (left_call (tasks_under before.callers) (state_of mid))
+    (step_end before (setting_in c.args.at.now) c.pop.new.self c.in-None.ensures.0 c.in-None.ensures.1) refl c.leave.ensures

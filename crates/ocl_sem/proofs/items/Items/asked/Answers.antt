@@ -13,9 +13,9 @@ returns c =
     let program = map function_node items.program.now in
     let kernel = function_node items.kernel.now in
     asked_as c.run.result (parts_of c.in_ok-state.state) (source_parts program)
-      (setting_of kernel items.range c.as_slice.result.now c.args.item) (setting_of kernel items.range items.bounds c.args.item)
-      c.args.fuel (state_of c.in_ok-state.state) (item_start program kernel items.bounds) c.args.answers.now
-      (ap (λ p. source_parts (map function_node p)) c.in_ok-state.ensures.program)
-      (ap (λ bounds. setting_of kernel items.range bounds c.args.item) c.as_slice.ensures)
-      (c.in_ok-state.ensures.state ∙ ap (λ bounds. item_start program kernel bounds) c.as_slice.ensures)
-      c.run.ensures
+    (setting_of kernel items.range c.as_slice.result.now c.args.item) (setting_of kernel items.range items.bounds c.args.item)
+    c.args.fuel (state_of c.in_ok-state.state) (item_start program kernel items.bounds) c.args.answers.now
+    (ap (λ p. source_parts (map function_node p)) c.in_ok-state.ensures.program)
+    (ap (λ bounds. setting_of kernel items.range bounds c.args.item) c.as_slice.ensures)
+    (c.in_ok-state.ensures.state ∙ ap (λ bounds. item_start program kernel bounds) c.as_slice.ensures)
+    c.run.ensures
