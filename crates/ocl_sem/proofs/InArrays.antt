@@ -1,9 +1,8 @@
 -- Each load and store of an item is of an element that is there, and no store is to an array that may not be changed.
-use Rattle.std.proofs.Common.{◌≡◌, ℕ, zero, suc, ◌<◌, Bool, true, List, [], ◌∷◌, nat_lt, refl, subst, ltb-true}
+use Rattle.std.proofs.Common.{◌≡◌, ℕ, zero, suc, true, List, [], ◌∷◌, nat_lt, refl, subst, ltb-true}
 use Rattle.std.proofs.lemmas.Bool.{cond_both}
 use Rattle.vx_base.specs.declared.types.Pos.{Pos}
 use Rattle.item_acts.specs.declared.acts.Action.{Action}
-use Rattle.item_acts.specs.declared.acts.Action.TheVariants.{Load as LoadAction, Store as StoreAction, Fault}
 use Rattle.item_acts.specs.declared.acts.Asked.{Asked}
 use Rattle.item_acts.specs.declared.acts.Asked.TheVariants.{Act}
 use Rattle.item_acts.specs.Machine.{Step, Go, Ask, Stop, asked_at_once, asked_behind, asked}
@@ -12,7 +11,7 @@ use Rattle.ocl_sem.specs.Items.{IsElement, IsInArrays, item_start}
 use Rattle.ocl_sem.specs.Launched.{StaysInArrays}
 use Rattle.ocl_sem.specs.Settings.{Setting, elem_size, element_in, setting_of}
 use Rattle.ocl_sem.specs.Source.{source_parts}
-use Rattle.ocl_sem.specs.Tasks.{Number, Variable, Unary, Binary, Fit, Call, Truth, AndThen, OrElse, Choose, Load, Reread, Store, Clear, Assign, Discard, Wait, Branch, Enter, Decide, Begin, Again, Invoke, CallEnd, Break, Continue, Return, Task, Parts, State, holding, load_step, low_bytes, store_step, step, step_from, task_step, onward}
+use Rattle.ocl_sem.specs.Tasks.{Number, Variable, Unary, Binary, Fit, Call, Truth, AndThen, OrElse, Choose, Load, Reread, Store, Clear, Assign, Discard, Wait, Branch, Enter, Decide, Begin, Again, Invoke, CallEnd, Break, Continue, Return, Task, Parts, State, load_step, store_step, step, step_from, task_step, onward}
 
 -- what a step asks for is within the arrays
 abbrev ActsIn : {S : Type 0} → Setting → Step S → Type 0

@@ -1,5 +1,5 @@
 -- Jumps over tasks.
-use Rattle.std.proofs.Common.{◌≡◌, ℕ, List, [], ◌∷◌, refl, ap, ◌∙◌}
+use Rattle.std.proofs.Common.{◌≡◌, ℕ, List, ◌∷◌, refl, ap, ◌∙◌}
 use Rattle.ocl_sem.specs.Items.{ItemState}
 use Rattle.ocl_sem.specs.Source.{Scope, SourceTask}
 use Rattle.ocl_sem.specs.Tasks.{marker_of, left, continued, returned, onward, turning, holding, under}

@@ -1,7 +1,7 @@
 -- The code's steps are the machine's.
 use Rattle.std.proofs.Common.{◌≡◌, ℕ, suc, ◌+◌, ◌-◌, ◌<◌, ◌≤◌, List, [], ◌∷◌, Result, Ok, Err, IfOk, refl, ap, sym, ◌∙◌, subst, arith}
 use Rattle.item_acts.specs.declared.acts.Asked.{Asked}
-use Rattle.item_acts.specs.Machine.{Step, Go, asked, asked_at_once}
+use Rattle.item_acts.specs.Machine.{Step, asked, asked_at_once}
 use Rattle.ocl_sem.specs.Items.{ItemState}
 use Rattle.ocl_sem.specs.Settings.{Setting}
 use Rattle.ocl_sem.specs.Source.{PlacedExpr, PlacedStmt, SourceTask}

@@ -1,7 +1,7 @@
 -- The small steps of a work-item. What is left to do is a list of tasks; sub-trees that may never be reached, or that are
 -- reached again, stand in it as they are. The machine is the same for every form of program: a form says how its sub-trees
 -- become tasks.
-use Rattle.std.specs.Prelude.{ℕ, ◌+◌, ◌-◌, ◌*◌, min, ◌%◌, ◌^◌, ◌==◌, nat_lt, Bool, true, false, if◌then◌else◌, List, [], ◌∷◌, reverse, Option, None, Some}
+use Rattle.std.specs.Prelude.{ℕ, ◌+◌, ◌-◌, ◌*◌, min, ◌%◌, ◌^◌, ◌==◌, nat_lt, Bool, if◌then◌else◌, List, [], ◌∷◌, reverse, Option, None, Some}
 use Rattle.vx_base.specs.Values.{elem_bytes, fitted}
 use Rattle.vx_base.specs.declared.types.Elem.{Elem}
 use Rattle.vx_base.specs.declared.types.Pos.{Pos}
