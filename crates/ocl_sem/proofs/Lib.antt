@@ -5,3 +5,4 @@ pub mod JumpLaws
 pub mod Sizes
 pub mod InArrays
 pub mod StepLaws
+pub mod SmallLaunch

@@ -22,6 +22,9 @@ use ocl_program::Argument;
 use std::alloc::{AllocError, Global};
 use std::mem;
 
+/// What a helper gives that comes to its end without `return`.
+const GIVEN_AT_END: u32 = 0;
+
 /// Takes the tasks down to the innermost loop of the call, and gives that loop's task, where there is one.
 fn find_loop<'a>(tasks: &mut Tasks<'a>) -> Option<Task<'a>>
     ensures { MatchOption result ((tasks.new ≡ []) × SkipsTo tasks.old []) (λ found. IsLoopTask found × SkipsTo tasks.old (found ∷ tasks.new)) }
@@ -63,7 +66,7 @@ impl<'a> State<'a> {
             Some(caller) => {
                 self.scope = caller.scope;
                 drop(mem::replace(&mut self.tasks, caller.tasks));
-                self.values.push(0)?;
+                self.values.push(GIVEN_AT_END)?;
                 Ok(Found::Moved)
             }
             None => Ok(Found::Stops(Action::End)),

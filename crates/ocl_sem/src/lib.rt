@@ -21,6 +21,8 @@ pub mod starts;
 pub mod statements;
 pub mod steps;
 pub mod tasks;
+#[cfg(test)]
+mod tests;
 pub mod turns;
 pub mod unfold;
 pub mod values;
