@@ -1,21 +1,19 @@
 -- Small kernels, run by hand: each row is what an item asks for after some answers.
-use Rattle.std.proofs.Common.{◌≡◌, refl, ℕ, ◌*◌, Bool, true, false, List, [], ◌∷◌, Option, None, Some}
+use Rattle.std.proofs.Common.{◌≡◌, refl, ℕ, ◌*◌, true, false, List, [], ◌∷◌, None, Some}
 use Rattle.std.specs.Prelude.{codes}
 use Rattle.vx_base.specs.declared.types.Elem.{Elem}
-use Rattle.vx_base.specs.declared.types.Elem.TheVariants.{Char, Uchar, Short, Int, Uint}
+use Rattle.vx_base.specs.declared.types.Elem.TheVariants.{Char, Uchar, Short, Int}
 use Rattle.vx_base.specs.declared.types.ParamKind.{ParamKind}
 use Rattle.vx_base.specs.declared.types.ParamKind.TheVariants.{Scalar, Pointer}
 use Rattle.vx_base.specs.declared.types.Pos.{Pos}
 use Rattle.vx_base.specs.declared.types.Size.TheVariants.{One, Two, Four}
-use Rattle.vx_base.specs.declared.types.Space.TheVariants.{Global as GlobalSpace, Constant, Local as LocalSpace}
+use Rattle.vx_base.specs.declared.types.Space.TheVariants.{Global as GlobalSpace, Local as LocalSpace}
 use Rattle.item_acts.specs.declared.acts.Action.TheVariants.{Load, Store, Barrier, Fault, End}
 use Rattle.item_acts.specs.declared.acts.Asked.{Asked}
 use Rattle.item_acts.specs.declared.acts.Asked.TheVariants.{Act, Running}
-use Rattle.item_acts.specs.declared.acts.Bound.{Bound}
 use Rattle.item_acts.specs.declared.acts.Bound.TheVariants.{Value as BoundValue, Array}
 use Rattle.item_acts.specs.declared.acts.Place.TheVariants.{Global, Local}
 use Rattle.item_acts.specs.declared.acts.Range.{Range}
-use Rattle.ocl_ast.specs.declared.exprs.BinOp.{BinOp}
 use Rattle.ocl_ast.specs.declared.exprs.BinOp.TheVariants.{Mul, Div, Rem, Add, Sub, Shl, Shr, Lt, Gt, Eq, Ne}
 use Rattle.ocl_ast.specs.declared.exprs.UnOp.TheVariants.{Minus}
 use Rattle.ocl_ast.specs.declared.stmts.AssignOp.TheVariants.{Set, With, Up}
@@ -25,8 +23,7 @@ use Rattle.ocl_ast.specs.declared.units.Param.{Param}
 use Rattle.ocl_program.specs.declared.exprs.ArrayRef.TheVariants.{Parameter, Declared}
 use Rattle.ocl_program.specs.declared.exprs.Builtin.TheVariants.{GlobalId, LocalId, MulHi, Abs}
 use Rattle.ocl_program.specs.declared.functions.CallSite.{CallSite}
-use Rattle.ocl_program.specs.declared.functions.LocalArray.{LocalArray}
-use Rattle.ocl_program.specs.Nodes.{ExprNode, NumberNode, VariableNode, UnaryNode, BinaryNode, BothNode, EitherNode, ChooseNode, CastNode, LoadNode, CallNode, BuiltinNode, NoArgs, ValueArg, ArrayArg, StmtNode, DeclareNode, SetVariableNode, SetElementNode, CallStmtNode, BarrierNode, IfNode, IfElseNode, WhileNode, DoNode, ForNode, BreakNode, ContinueNode, ReturnNode, BlockNode, EmptyNode, StmtNodes, NoStmts, AndStmt, stmt_nodes, FunctionNode}
+use Rattle.ocl_program.specs.Nodes.{ExprNode, NumberNode, VariableNode, UnaryNode, BinaryNode, BothNode, EitherNode, ChooseNode, CastNode, LoadNode, CallNode, BuiltinNode, NoArgs, ValueArg, ArrayArg, StmtNode, DeclareNode, SetVariableNode, SetElementNode, CallStmtNode, BarrierNode, IfNode, IfElseNode, WhileNode, DoNode, ForNode, BreakNode, ContinueNode, ReturnNode, BlockNode, NoStmts, stmt_nodes, FunctionNode}
 use Rattle.ocl_sem.specs.Items.{kernel_asks}
 
 abbrev at : ℕ → Pos

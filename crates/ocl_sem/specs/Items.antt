@@ -1,5 +1,5 @@
 -- The work-items of a launch: how each begins, and what it asks for next.
-use Rattle.std.specs.Prelude.{◌≡◌, ℕ, ◌+◌, ◌*◌, ◌<◌, ◌≤◌, true, List, [], ◌∷◌, slice_get, slice_index, Option, None, Some}
+use Rattle.std.specs.Prelude.{◌≡◌, ℕ, ◌<◌, true, List, [], slice_index}
 use Rattle.vx_base.specs.declared.types.Size.{Size}
 use Rattle.item_acts.specs.declared.acts.Action.{Action}
 use Rattle.item_acts.specs.declared.acts.Action.TheVariants.{Load, Store, Barrier, Fault, End}
@@ -10,8 +10,7 @@ use Rattle.item_acts.specs.declared.acts.Range.{Range}
 use Rattle.item_acts.specs.Machine.{Step, asked}
 use Rattle.ocl_program.specs.declared.exprs.ArrayRef.{ArrayRef}
 use Rattle.ocl_program.specs.Nodes.{FunctionNode}
-use Rattle.ocl_sem.specs.declared.settings.ItemArray.{ItemArray}
-use Rattle.ocl_sem.specs.Settings.{Setting, setting_of, array_of, bound_values, group_number, elem_size, element_in}
+use Rattle.ocl_sem.specs.Settings.{Setting, setting_of, bound_values, elem_size, element_in}
 use Rattle.ocl_sem.specs.Source.{PlacedExpr, PlacedStmt, Scope, source_parts, stmts_tasks}
 use Rattle.ocl_sem.specs.Tasks.{State, step}
 
@@ -44,18 +43,16 @@ kernel_asks program kernel range bounds item answers fuel =
 -- ---- each access is of an element that is there
 
 -- the place is that of an element of the array that the kernel names so
-pub record IsElement (kernel : FunctionNode) (range : Range) (bounds : List Bound) (item : ℕ) (array : ItemArray) (place : Place) (size : Size) : Type 0 where
+pub record IsElement (at : Setting) (array : ArrayRef) (place : Place) (size : Size) : Type 0 where
   pub index : ℕ
-  pub within : index < array.count
-  pub place_is : place ≡ element_in (group_number range item) array index
-  pub size_is : size ≡ elem_size array.elem
+  pub within : index < (at.array array).count
+  pub place_is : place ≡ element_in at.group (at.array array) index
+  pub size_is : size ≡ elem_size (at.array array).elem
 
 -- a load reads an element of an array of the kernel, a store writes one of an array that may be changed
-abbrev pub IsInArrays : FunctionNode → Range → List Bound → ℕ → Action → Type 0
-IsInArrays kernel range bounds item (Load place size) =
-    (array : ArrayRef) × IsElement kernel range bounds item (array_of kernel bounds array) place size
-IsInArrays kernel range bounds item (Store place size value) =
-    (array : ArrayRef) × IsElement kernel range bounds item (array_of kernel bounds array) place size × ((array_of kernel bounds array).writable ≡ true)
-IsInArrays kernel range bounds item (Barrier point) = Unit {0}
-IsInArrays kernel range bounds item (Fault pos) = Unit {0}
-IsInArrays kernel range bounds item End = Unit {0}
+abbrev pub IsInArrays : Setting → Action → Type 0
+IsInArrays at (Load place size) = (array : ArrayRef) × IsElement at array place size
+IsInArrays at (Store place size value) = (array : ArrayRef) × (IsElement at array place size × ((at.array array).writable ≡ true))
+IsInArrays at (Barrier point) = Unit {0}
+IsInArrays at (Fault pos) = Unit {0}
+IsInArrays at End = Unit {0}

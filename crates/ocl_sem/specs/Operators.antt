@@ -1,6 +1,6 @@
 -- The values of the built-in functions on 32-bit words (OpenCL C 1.2, section 6.12.3). Values of a type below 32 bits are kept
 -- extended to 32 bits by their sign or by zeros, so that a conversion to int or to uint changes no bit.
-use Rattle.std.specs.Prelude.{ℕ, ◌-◌, Bool, nat_lt, int_lt, if◌then◌else◌}
+use Rattle.std.specs.Prelude.{ℕ, Bool, nat_lt, int_lt, if◌then◌else◌}
 use Rattle.vx_base.specs.Values.{alu_value_of, signed_of}
 use Rattle.vx_base.specs.declared.types.Alu.TheVariants as alu
 

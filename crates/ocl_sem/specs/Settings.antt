@@ -1,5 +1,5 @@
 -- What a work-item knows of its launch: its numbers, and the arrays of its kernel.
-use Rattle.std.specs.Prelude.{ℕ, zero, suc, ◌+◌, ◌*◌, ◌/◌, ◌%◌, Bool, true, false, not, nat_lt, if◌then◌else◌, List, [], ◌∷◌, slice_get, slice_index, Option, None, Some}
+use Rattle.std.specs.Prelude.{ℕ, zero, suc, ◌+◌, ◌*◌, ◌/◌, ◌%◌, ◌^◌, count_by, Bool, true, false, not, nat_lt, if◌then◌else◌, List, [], ◌∷◌, slice_get, slice_index, Option, None, Some}
 use Rattle.vx_base.specs.Values.{elem_bytes, fitted}
 use Rattle.vx_base.specs.declared.types.Elem.{Elem}
 use Rattle.vx_base.specs.declared.types.Elem.TheVariants.{Char, Uchar, Short, Ushort, Int, Uint}
@@ -20,6 +20,7 @@ use Rattle.ocl_program.specs.declared.exprs.ArrayRef.TheVariants.{Parameter, Dec
 use Rattle.ocl_program.specs.declared.exprs.Builtin.{Builtin}
 use Rattle.ocl_program.specs.declared.exprs.Builtin.TheVariants.{GlobalId, LocalId, GroupId, GlobalSize, LocalSize, NumGroups}
 use Rattle.ocl_program.specs.declared.functions.LocalArray.{LocalArray}
+use Rattle.ocl_program.specs.Measures.{cut}
 use Rattle.ocl_program.specs.Nodes.{FunctionNode}
 use Rattle.ocl_sem.specs.declared.settings.ItemArray.{ItemArray}
 
@@ -37,12 +38,12 @@ group_size range = size_in range range.local 0 * size_in range range.local 1 * s
 abbrev pub groups_in : Range → ℕ → ℕ
 groups_in range d = size_in range range.global d / size_in range range.local d
 
--- coordinate d of number n in a box with these sizes, the first coordinate running fastest
-abbrev pub coordinate : (ℕ → ℕ) → ℕ → ℕ → ℕ
-coordinate sizes n zero = n % sizes 0
-coordinate sizes n (suc zero) = n / sizes 0 % sizes 1
-coordinate sizes n (suc (suc zero)) = n / (sizes 0 * sizes 1)
-coordinate sizes n (suc (suc (suc d))) = 0
+-- coordinate d of number n in a box whose first two sizes are these, the first coordinate running fastest
+abbrev pub coordinate : ℕ → ℕ → ℕ → ℕ → ℕ
+coordinate first second n zero = n % first
+coordinate first second n (suc zero) = n / first % second
+coordinate first second n (suc (suc zero)) = n / (first * second)
+coordinate first second n (suc (suc (suc d))) = 0
 
 -- the group of an item, and its number in the group
 abbrev pub group_number : Range → ℕ → ℕ
@@ -51,15 +52,15 @@ group_number range item = item / group_size range
 abbrev pub local_number : Range → ℕ → ℕ
 local_number range item = item % group_size range
 
--- the numbers of an item in dimension d: of its group, in its group, and in the launch
+-- the numbers of an item in dimension d: of its group, in its group, and in the launch, which is a uint
 abbrev pub group_id : Range → ℕ → ℕ → ℕ
-group_id range item d = coordinate (groups_in range) (group_number range item) d
+group_id range item d = coordinate (groups_in range 0) (groups_in range 1) (group_number range item) d
 
 abbrev pub local_id : Range → ℕ → ℕ → ℕ
-local_id range item d = coordinate (size_in range range.local) (local_number range item) d
+local_id range item d = coordinate (size_in range range.local 0) (size_in range range.local 1) (local_number range item) d
 
 abbrev pub global_id : Range → ℕ → ℕ → ℕ
-global_id range item d = group_id range item d * size_in range range.local d + local_id range item d
+global_id range item d = (group_id range item d * size_in range range.local d + local_id range item d) % 2 ^ 32
 
 -- what a built-in function of a dimension gives (OpenCL C 1.2, section 6.12.1)
 abbrev pub id_of : Range → ℕ → Builtin → ℕ → ℕ
@@ -122,15 +123,13 @@ abbrev pub is_local_kind : ParamKind → Bool
 is_local_kind (Scalar elem) = false
 is_local_kind (Pointer space elem readonly) = is_local space
 
--- how many parameters are `__local` arrays
-abbrev pub local_params : List Param → ℕ
-local_params [] = 0
-local_params (param ∷ params) = if is_local_kind param.kind then local_params params + 1 else local_params params
+abbrev pub is_local_param : Param → Bool
+is_local_param param = is_local_kind param.kind
 
--- a `__local` array that the kernel declares; they are numbered behind its parameters
+-- a `__local` array that the kernel declares; they are numbered behind its `__local` parameters
 abbrev pub declared_array : List Param → ℕ → Option LocalArray → ItemArray
 declared_array params k None = no_array
-declared_array params k (Some array) = record { local = true; number = local_params params + k; count = array.count; elem = array.elem; writable = true }
+declared_array params k (Some array) = record { local = true; number = cut (count_by is_local_param params + k); count = array.count; elem = array.elem; writable = true }
 
 -- the array that a kernel names so
 abbrev pub array_of : FunctionNode → List Bound → ArrayRef → ItemArray

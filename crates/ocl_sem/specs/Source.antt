@@ -1,9 +1,8 @@
 -- How the resolved program becomes tasks: expressions and statements from left to right, each within an active call.
-use Rattle.std.specs.Prelude.{ℕ, ◌+◌, Bool, List, [], ◌∷◌, slice_get, slice_index_or, Option, None, Some}
+use Rattle.std.specs.Prelude.{ℕ, ◌+◌, Bool, true, false, List, [], ◌∷◌, count_by, take, slice_get, slice_index_or, option_map, Option, None, Some}
 use Rattle.vx_base.specs.declared.types.Elem.{Elem}
 use Rattle.vx_base.specs.declared.types.ParamKind.{ParamKind}
 use Rattle.vx_base.specs.declared.types.ParamKind.TheVariants.{Scalar, Pointer}
-use Rattle.vx_base.specs.declared.types.Pos.{Pos}
 use Rattle.ocl_ast.specs.declared.exprs.BinOp.{BinOp}
 use Rattle.ocl_ast.specs.declared.exprs.BinOp.TheVariants.{Add, Sub}
 use Rattle.ocl_ast.specs.declared.stmts.AssignOp.{AssignOp}
@@ -74,23 +73,25 @@ scope_at scope site callee args = record {
   arrays = arrays_named scope args;
 }
 
--- what a value is bound to: the next variable, where the parameter is a scalar
-abbrev pub bind : Option ParamKind → ℕ → List SourceTask → List SourceTask
-bind (Some (Scalar elem)) variable ts = task.Assign variable elem ∷ ts
-bind kind variable ts = task.Discard ∷ ts
+abbrev pub is_scalar_kind : ParamKind → Bool
+is_scalar_kind (Scalar elem) = true
+is_scalar_kind (Pointer space elem readonly) = false
 
--- the variable of the scalar parameter behind one of this kind
-abbrev pub behind : Option ParamKind → ℕ → ℕ
-behind (Some (Scalar elem)) variable = cut (variable + 1)
-behind kind variable = variable
+abbrev pub is_scalar : Param → Bool
+is_scalar param = is_scalar_kind param.kind
 
-abbrev pub first_kind : List Param → Option ParamKind
-first_kind [] = None
-first_kind (param ∷ params) = Some param.kind
+abbrev pub bound_as : ℕ → ParamKind → SourceTask
+bound_as variable (Scalar elem) = task.Assign variable elem
+bound_as variable (Pointer space elem readonly) = task.Discard
 
-abbrev pub other_params : List Param → List Param
-other_params [] = []
-other_params (param ∷ params) = params
+abbrev pub bound_by : ℕ → Option Param → SourceTask
+bound_by variable None = task.Discard
+bound_by variable (Some param) = bound_as variable param.kind
+
+-- What is done with the value of argument k: it is bound to its parameter's variable, where that is a scalar. The scalar parameters
+-- are variables in order, of which the first is given.
+abbrev pub binding : ℕ → List Param → ℕ → SourceTask
+binding first params k = bound_by (cut (first + count_by is_scalar (take k params))) (slice_get params k)
 
 -- what a call leads to: the function and its place in the table
 abbrev pub site_of : Scope → ℕ → Option CallSite
@@ -124,7 +125,7 @@ abbrev mutual
   value_tasks program scope (CastNode elem part) ts = value_tasks program scope part (task.Fit elem ∷ ts)
   value_tasks program scope (LoadNode array elem place pos) ts = value_tasks program scope place (task.Load (array_in scope array) pos ∷ ts)
   value_tasks program scope (CallNode call args) ts =
-      call_tasks scope (site_of scope call) (callee_of program (site_of scope call)) args (λ variable params. args_tasks program scope variable params args) ts
+      call_tasks scope (site_of scope call) (callee_of program (site_of scope call)) args (λ first params. args_tasks program scope first params 0 args) ts
   value_tasks program scope (BuiltinNode which unsigned args) ts = values_tasks program scope args (task.Call which unsigned ∷ ts)
   value_tasks program scope (ParenNode part) ts = value_tasks program scope part ts
 
@@ -135,12 +136,15 @@ abbrev mutual
   values_tasks program scope (ArrayArg array more) ts = values_tasks program scope more ts
 
   -- each argument's value, bound before the next one is evaluated
-  pub args_tasks : List FunctionNode → Scope → ℕ → List Param → ArgNodes → List SourceTask → List SourceTask
-  args_tasks program scope variable params NoArgs ts = ts
-  args_tasks program scope variable params (ValueArg e more) ts =
-      value_tasks program scope e (bind (first_kind params) variable (args_tasks program scope (behind (first_kind params) variable) (other_params params) more ts))
-  args_tasks program scope variable params (ArrayArg array more) ts =
-      args_tasks program scope (behind (first_kind params) variable) (other_params params) more ts
+  pub args_tasks : List FunctionNode → Scope → ℕ → List Param → ℕ → ArgNodes → List SourceTask → List SourceTask
+  args_tasks program scope first params k NoArgs ts = ts
+  args_tasks program scope first params k (ValueArg e more) ts = value_tasks program scope e (binding first params k ∷ args_tasks program scope first params (k + 1) more ts)
+  args_tasks program scope first params k (ArrayArg array more) ts = args_tasks program scope first params (k + 1) more ts
+
+-- a call by its number in the table of calls
+abbrev pub call_at : List FunctionNode → Scope → ℕ → ArgNodes → List SourceTask → List SourceTask
+call_at program scope call args ts =
+    call_tasks scope (site_of scope call) (callee_of program (site_of scope call)) args (λ first params. args_tasks program scope first params 0 args) ts
 
 -- ---- statements
 
@@ -149,12 +153,16 @@ abbrev pub operand_tasks : List FunctionNode → Scope → Option ExprNode → L
 operand_tasks program scope None ts = task.Number 1 ∷ ts
 operand_tasks program scope (Some e) ts = value_tasks program scope e ts
 
+-- the value of an operator on what `old` has and the right side
+abbrev pub combined_tasks : BinOp → Bool → SourceTask → (List SourceTask → List SourceTask) → List SourceTask → List SourceTask
+combined_tasks op unsigned old operand ts = old ∷ operand (task.Binary op unsigned ∷ ts)
+
 -- The new value of a target, where `old` has its value before: that of `=` does not look at it.
 abbrev pub assigned_tasks : AssignOp → Bool → SourceTask → (List SourceTask → List SourceTask) → List SourceTask → List SourceTask
 assigned_tasks Set unsigned old operand ts = operand ts
-assigned_tasks (With op) unsigned old operand ts = old ∷ operand (task.Binary op unsigned ∷ ts)
-assigned_tasks Up unsigned old operand ts = old ∷ operand (task.Binary Add unsigned ∷ ts)
-assigned_tasks Down unsigned old operand ts = old ∷ operand (task.Binary Sub unsigned ∷ ts)
+assigned_tasks (With op) unsigned old operand ts = combined_tasks op unsigned old operand ts
+assigned_tasks Up unsigned old operand ts = combined_tasks Add unsigned old operand ts
+assigned_tasks Down unsigned old operand ts = combined_tasks Sub unsigned old operand ts
 
 -- a value that a function gives back
 abbrev pub given_tasks : Gives → List SourceTask → List SourceTask
@@ -165,20 +173,15 @@ abbrev pub return_tasks : List FunctionNode → Scope → Option ExprNode → Li
 return_tasks program scope None ts = task.Number 0 ∷ task.Return ∷ ts
 return_tasks program scope (Some e) ts = value_tasks program scope e (given_tasks scope.function.gives (task.Return ∷ ts))
 
--- a variable is 0, and then the value that is written
-abbrev pub declare_tasks : List FunctionNode → Scope → ℕ → Elem → Option ExprNode → List SourceTask → List SourceTask
-declare_tasks program scope variable elem None ts = task.Clear (variable_in scope variable) ∷ ts
-declare_tasks program scope variable elem (Some e) ts =
-    task.Clear (variable_in scope variable) ∷ value_tasks program scope e (task.Assign (variable_in scope variable) elem ∷ ts)
-
-abbrev pub placed_test : Scope → Option ExprNode → Option PlacedExpr
-placed_test scope None = None
-placed_test scope (Some test) = Some (record { scope = scope; expr = test })
+-- a variable of the kernel is 0, and then it has the value that is written
+abbrev pub declared_tasks : List FunctionNode → Scope → ℕ → Elem → Option ExprNode → List SourceTask → List SourceTask
+declared_tasks program scope variable elem None ts = task.Clear variable ∷ ts
+declared_tasks program scope variable elem (Some e) ts = task.Clear variable ∷ value_tasks program scope e (task.Assign variable elem ∷ ts)
 
 -- the loop with these parts
 abbrev pub loop_in : Scope → Option ExprNode → StmtNode → StmtNode → SourceLoop
 loop_in scope test step body = record {
-  test = placed_test scope test;
+  test = option_map (λ e. record { scope = scope; expr = e }) test;
   step = record { scope = scope; stmt = step };
   body = record { scope = scope; stmt = body };
 }
@@ -191,7 +194,7 @@ head_tasks program scope (Some test) loop ts = value_tasks program scope test (t
 abbrev mutual
   -- The tasks of a statement, and then the rest.
   pub stmt_tasks : List FunctionNode → Scope → StmtNode → List SourceTask → List SourceTask
-  stmt_tasks program scope (DeclareNode variable elem value) ts = declare_tasks program scope variable elem value ts
+  stmt_tasks program scope (DeclareNode variable elem value) ts = declared_tasks program scope (variable_in scope variable) elem value ts
   stmt_tasks program scope (LocalArrayNode array count) ts = ts
   stmt_tasks program scope (SetVariableNode variable elem op unsigned value) ts =
       assigned_tasks op unsigned (task.Variable (variable_in scope variable)) (operand_tasks program scope value) (task.Assign (variable_in scope variable) elem ∷ ts)

@@ -1,7 +1,7 @@
 -- The small steps of a work-item. What is left to do is a list of tasks; sub-trees that may never be reached, or that are
 -- reached again, stand in it as they are. The machine is the same for every form of program: a form says how its sub-trees
 -- become tasks.
-use Rattle.std.specs.Prelude.{ℕ, zero, suc, ◌+◌, ◌-◌, ◌*◌, ◌%◌, ◌^◌, ◌==◌, nat_lt, Bool, true, false, if◌then◌else◌, List, [], ◌∷◌, reverse, Option, None, Some}
+use Rattle.std.specs.Prelude.{ℕ, ◌+◌, ◌-◌, ◌*◌, min, ◌%◌, ◌^◌, ◌==◌, nat_lt, Bool, if◌then◌else◌, List, [], ◌∷◌, reverse, Option, None, Some}
 use Rattle.vx_base.specs.Values.{elem_bytes, fitted}
 use Rattle.vx_base.specs.declared.types.Elem.{Elem}
 use Rattle.vx_base.specs.declared.types.Pos.{Pos}
@@ -15,6 +15,8 @@ use Rattle.ocl_program.specs.declared.exprs.Builtin.{Builtin}
 use Rattle.ocl_program.specs.declared.exprs.Builtin.TheVariants.{WorkDim, GlobalId, LocalId, GroupId, GlobalSize, LocalSize, NumGroups, GlobalOffset, Min, Max, Clamp, Abs, MulHi}
 use Rattle.ocl_program.specs.Values.{binary_value, unary_value}
 use Rattle.ocl_sem.specs.declared.settings.ItemArray.{ItemArray}
+use Rattle.ocl_sem.specs.declared.tasks.Marker.{Marker}
+use Rattle.ocl_sem.specs.declared.tasks.Marker.TheVariants.{Plain, TurnEnd, TurnStart, BodyEnd}
 use Rattle.ocl_sem.specs.Operators.{least_of, greatest_of, clamped, magnitude, high_product}
 use Rattle.ocl_sem.specs.Settings.{Setting, elem_size, element_in}
 
@@ -111,12 +113,6 @@ optional f (Some a) rest = f a rest
 -- ---- jumps
 
 -- what a task is for a jump that leaves it behind
-pub data Marker : Type 0 where
-  Plain : Marker
-  TurnEnd : Marker
-  TurnStart : Marker
-  BodyEnd : Marker
-
 abbrev pub marker_of : {V T : Type 0} → Task V T → Marker
 marker_of (Again loop) = TurnEnd
 marker_of (Decide loop) = TurnStart
@@ -201,9 +197,9 @@ headed parts loop (Some test) ts = parts.value test (Decide loop ∷ ts)
 abbrev pub turned : {V T : Type 0} → Parts V T → Loop V T → List (Task V T) → List (Task V T)
 turned parts loop ts = parts.body loop.body (Again loop ∷ ts)
 
--- one more turn is over
+-- one more turn is over; numbers of turns are kept up to 2 ^ 64 - 1, which no run of fewer steps comes to
 abbrev pub risen : List ℕ → List ℕ
-risen ns = suc (top ns) ∷ under ns
+risen ns = min (top ns + 1) (2 ^ 64 - 1) ∷ under ns
 
 -- One small step at a task, where the others are the state's.
 abbrev pub task_step : {V T : Type 0} → Parts V T → Setting → Task V T → State V T → Step (State V T)
@@ -214,11 +210,11 @@ task_step parts at (Binary op unsigned) s = Go (holding (binary_value op unsigne
 task_step parts at (Fit elem) s = Go (holding (fitted elem (top s.values) ∷ under s.values) s)
 task_step parts at (Call which unsigned) s = Go (holding (called at which unsigned s.values) s)
 task_step parts at Truth s = Go (holding ((if top s.values == 0 then 0 else 1) ∷ under s.values) s)
-task_step parts at (AndThen right) s = Go (if top s.values == 0 then s else onward (parts.value right (Truth ∷ s.tasks)) (holding (under s.values) s))
+task_step parts at (AndThen right) s = Go (if top s.values == 0 then holding (0 ∷ under s.values) s else onward (parts.value right (Truth ∷ s.tasks)) (holding (under s.values) s))
 task_step parts at (OrElse right) s = Go (if top s.values == 0 then onward (parts.value right (Truth ∷ s.tasks)) (holding (under s.values) s) else holding (1 ∷ under s.values) s)
 task_step parts at (Choose one other) s = Go (onward (if top s.values == 0 then parts.value other s.tasks else parts.value one s.tasks) (holding (under s.values) s))
 task_step parts at (Load array pos) s = load_step at.group (at.array array) (top s.values) pos (under s.values) s
-task_step parts at (Reread array pos) s = load_step at.group (at.array array) (top s.values) pos s.values s
+task_step parts at (Reread array pos) s = load_step at.group (at.array array) (top s.values) pos (top s.values ∷ under s.values) s
 task_step parts at (Store array pos) s = store_step at.group (at.array array) (top (under s.values)) (top s.values) pos (holding (under (under s.values)) s)
 task_step parts at (Clear k) s = Go (with_variable k 0 s)
 task_step parts at (Assign k elem) s = Go (with_variable k (fitted elem (top s.values)) (holding (under s.values) s))
