@@ -1,5 +1,3 @@
-ghost use Rattle.std.specs.Prelude.{◌≡◌, length, IfOk};
-
 use crate::{Cache, EvictOldest, Evictor};
 use memory_banks::PlainBus;
 use std::test::Fail;

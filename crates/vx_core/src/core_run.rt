@@ -1,4 +1,4 @@
-ghost use Rattle.std.specs.Prelude.{◌≡◌, ◌≢◌, ◌+◌, ◌*◌, ◌%◌, ◌^◌, ◌<◌, ◌≤◌, IfOk, None, length};
+ghost use Rattle.std.specs.Prelude.{◌≡◌, ◌≢◌, ◌+◌, ◌*◌, ◌%◌, ◌^◌, ◌<◌, ◌≤◌, IfOk, None};
 ghost use Rattle.vx_core.specs.Blocks.{with_zeros, with_block};
 ghost use Rattle.vx_core.specs.Crews.{opening, ready_warps, with_warp};
 ghost use Rattle.vx_core.specs.Ends.{bar_of, lane_of};

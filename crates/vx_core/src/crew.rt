@@ -1,7 +1,7 @@
 ghost use Rattle.std.specs.Prelude.{◌≡◌, ◌≢◌, ◌%◌, ◌^◌, ◌<◌, ◌≤◌, length, true};
 ghost use Rattle.vx_isa.specs.Warps.{has_lane, lanes_below, started};
 ghost use Rattle.vx_core.specs.CoreMemory.{KeepsLoans, reach_of};
-ghost use Rattle.vx_core.specs.Crews.{crew_after, ended_warps, is_running, is_spawned, opening, ready_warps, running_warps, with_spawned, spawned_warps, waiting_warps, with_started, with_warp, without};
+ghost use Rattle.vx_core.specs.Crews.{crew_after, ended_warps, is_running, is_spawned, opening, ready_warps, running_warps, spawned_warps, waiting_warps, with_spawned, with_started, with_warp};
 ghost use Rattle.vx_core.specs.Ends.{bar_of, lane_of};
 ghost use Rattle.vx_core.specs.Places.{TakesInstruction};
 ghost use Rattle.vx_core.specs.WarpLists.{warps_of};
