@@ -1,4 +1,5 @@
 pub mod ScopeLaws
+pub mod Steps
 pub mod TableLaws
 pub mod WorkedFaults
 pub mod WorkedTypes

@@ -4,12 +4,16 @@
 //! statements, and `specs/Functions.antt` the functions of a file with their limits.
 #![tactic(auto)]
 
+pub mod args;
 pub mod builtins;
+pub mod calls;
+pub mod exprs;
 pub mod faults;
 pub mod functions;
 pub mod kinds;
 pub mod names;
 pub mod parts;
 pub mod scopes;
+pub mod uses;
 
 pub use faults::{Counted, TypeFault};
