@@ -8,7 +8,9 @@ pub mod exprs;
 pub mod functions;
 pub mod nodes;
 pub mod stmts;
+pub mod values;
 
 pub use exprs::{Argument, ArrayRef, Builtin, TypedExpr};
 pub use functions::{CallSite, LocalArray, Measures, TypedFunction};
 pub use stmts::TypedStmt;
+pub use values::{binary_value, unary_value};

@@ -48,9 +48,12 @@ abbrev pub innermost : List Scope → Scope
 innermost [] = []
 innermost (scope ∷ outer) = scope
 
+abbrev pub outer_scopes : List Scope → List Scope
+outer_scopes [] = []
+outer_scopes (scope ∷ outer) = outer
+
 abbrev pub with_entry : List ℕ → Binding → List Scope → List Scope
-with_entry name binding [] = ((name, binding) ∷ []) ∷ []
-with_entry name binding (scope ∷ outer) = (scope ++ (name, binding) ∷ []) ∷ outer
+with_entry name binding scopes = (innermost scopes ++ (name, binding) ∷ []) ∷ outer_scopes scopes
 
 -- a name of its own for the innermost scope, of a variable or an array
 abbrev pub declared : Ident → Binding → Standing → Result Standing TypeFault
@@ -66,10 +69,6 @@ declared_variable name binding st = declared name (binding st.variables) st >>= 
 
 abbrev pub opened : Standing → Standing
 opened st = record st { scopes = [] ∷ st.scopes }
-
-abbrev pub outer_scopes : List Scope → List Scope
-outer_scopes [] = []
-outer_scopes (scope ∷ outer) = outer
 
 abbrev pub closed : Standing → Standing
 closed st = record st { scopes = outer_scopes st.scopes }
@@ -103,14 +102,14 @@ count_value e = 0
 abbrev pub most_elements : ℕ
 most_elements = 262144
 
-abbrev pub checked_count : Pos → Bool → Typed → Result Typed TypeFault
-checked_count pos outermost t =
-    if outermost && (nat_le 1 (count_value t.expr) && nat_le (count_value t.expr) most_elements) then Ok t else Err (Mismatch pos)
+abbrev pub checked_count : Pos → Bool → ExprNode → Result ExprNode TypeFault
+checked_count pos outermost count =
+    if outermost && (nat_le 1 (count_value count) && nat_le (count_value count) most_elements) then Ok count else Err (Mismatch pos)
 
 -- a count in its place; no name in it is looked up
-abbrev pub typed_count : Place → Pos → ExprTree → Result Typed TypeFault
+abbrev pub typed_count : Place → Pos → ExprTree → Result ExprNode TypeFault
 typed_count place pos count =
-    if is_count count then (typed place.functions [] [] count >>= λ t. checked_count pos place.outermost t) else Err (Mismatch pos)
+    if is_count count then (typed place.functions [] [] count >>= λ t. checked_count pos place.outermost t.expr) else Err (Mismatch pos)
 
 -- ---- assignments
 
@@ -197,7 +196,7 @@ abbrev mutual
   typed_stmt place st (LocalArrayTree elem name count) =
       declared_variable name (λ variable. ArrayBinding (Declared (cut (length st.arrays))) Local elem false) st >>= λ now.
       typed_count place name.pos count >>= λ c.
-      Ok (LocalArrayNode (cut (length st.arrays)) c.expr, record now { arrays = st.arrays ++ record { elem = elem; count = count_value c.expr } ∷ [] })
+      Ok (LocalArrayNode (cut (length st.arrays)) c, record now { arrays = now.arrays ++ record { elem = elem; count = count_value c } ∷ [] })
   typed_stmt place st (AssignTree target op value pos) =
       typed_target place.functions st.scopes st.calls target >>= λ t. typed_option place.functions st.scopes t.calls value >>= λ v.
       Ok (change_node t op v t.what, with_calls v.calls st)

@@ -1,8 +1,8 @@
 //! The typing of expressions.
 ghost use Rattle.ocl_ast.specs.Shapes.{tree_of, arg_trees};
-ghost use Rattle.std.specs.Prelude.{[]};
-ghost use Rattle.ocl_types.specs.Answers.{callee_in, TypesTo, TakesTo};
-ghost use Rattle.ocl_types.specs.Exprs.{typed, typed_args as typed_args_of};
+ghost use Rattle.std.specs.Prelude.{[], option_map};
+ghost use Rattle.ocl_types.specs.Answers.{MaybeTo, callee_in, TypesTo, TakesTo};
+ghost use Rattle.ocl_types.specs.Exprs.{typed, typed_args as typed_args_of, typed_option as typed_option_of};
 ghost use Rattle.ocl_types.specs.Tables.{NumbersOf, trees_of};
 
 use crate::args::{bare_array, first_pos, pointer_wanted, Args};
@@ -17,6 +17,7 @@ use crate::uses::{as_array, as_callee, as_variable, Callee};
 use ocl_ast::Expr;
 use ocl_program::TypedExpr;
 use std::alloc::Global;
+use vx_base::Elem;
 
 /// Types an expression. `calls` are the callees of its function so far; after a fault they are not to be used.
 #[cycle(exprs)]
@@ -132,4 +133,39 @@ pub fn typed_args(
         }
     }
     Ok(sofar)
+}
+
+/// An expression that may be left out, with its type; int where it is left out.
+#[derive(Drop)]
+pub struct MaybePart {
+    /// The expression.
+    pub expr: Option<TypedExpr>,
+    /// Its type, before it is promoted.
+    pub elem: Elem,
+}
+
+/// Types an expression that may be left out.
+pub fn typed_option(
+    alloc: Global,
+    functions: &Functions<'_>,
+    scopes: &Scopes<'_>,
+    calls: &mut Vec<u32>,
+    expr: &Option<Expr>,
+) -> Result<MaybePart, TypeFault>
+    requires { NumbersOf functions.now.numbers.entries (trees_of functions.now.functions.now) }
+    ensures { MaybeTo result calls.new.items (typed_option_of (trees_of functions.now.functions.now) scopes.now calls.old.items (option_map tree_of expr.now)) }
+{
+    match expr {
+        Some(expr) => {
+            let part = typed_expr(alloc, functions, scopes, calls, expr)?;
+            Ok(MaybePart {
+                expr: Some(part.expr),
+                elem: part.elem,
+            })
+        }
+        None => Ok(MaybePart {
+            expr: None,
+            elem: Elem::Int,
+        }),
+    }
 }

@@ -7,6 +7,8 @@
 pub mod args;
 pub mod builtins;
 pub mod calls;
+pub mod changes;
+pub mod counts;
 pub mod exprs;
 pub mod faults;
 pub mod functions;
@@ -14,6 +16,8 @@ pub mod kinds;
 pub mod names;
 pub mod parts;
 pub mod scopes;
+pub mod standing;
+pub mod stmts;
 pub mod uses;
 
 pub use faults::{Counted, TypeFault};

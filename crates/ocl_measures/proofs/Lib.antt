@@ -1,0 +1,4 @@
+pub mod Alike
+pub mod Leading
+pub mod Rounds
+pub mod Sums

@@ -1,0 +1,108 @@
+//! How large the functions of a program are with their calls expanded.
+ghost use Rattle.std.specs.Prelude.{◌≡◌, IfOk, ℕ, map, length};
+ghost use Rattle.ocl_program.specs.Measures.{cut, own_calls, own_control, own_depth, own_nodes, own_sites, own_variables};
+ghost use Rattle.ocl_program.specs.Shapes.{function_node};
+ghost use Rattle.ocl_measures.specs.Totals.{AreTotals, added_up, calls_of, control_of, depth_of, nested, nodes_of, sites_of, stepped, variables_of};
+
+use crate::sizes::{Inner, NONE, Size, Totals, stmts_size};
+use ocl_program::{CallSite, TypedFunction};
+use std::alloc::{AllocError, Global};
+
+/// A function of which nothing is known.
+const NO_TOTALS: Totals = Totals {
+    variables: 0,
+    sites: 0,
+    calls: 0,
+    size: NONE,
+};
+
+/// The totals of a function, nothing where there is none.
+fn totals_at(totals: &[Totals], function: u32) -> Totals
+    ensures variables { result.variables ≡ variables_of totals.now function }
+    ensures sites { result.sites ≡ sites_of totals.now function }
+    ensures calls { result.calls ≡ calls_of totals.now function }
+{
+    match totals.get(function as usize) {
+        Some(totals) => *totals,
+        None => NO_TOTALS,
+    }
+}
+
+/// A function's own variables with those of its calls.
+fn all_variables(function: &TypedFunction, totals: &[Totals]) -> u32
+    ensures { result ≡ added_up (variables_of totals.now) function.now.variables function.now.calls.items }
+{
+    function.calls.iter().fold(function.variables, |sum, call| {
+        sum.saturating_add(totals_at(totals, call.callee).variables)
+    })
+}
+
+/// A function's own barriers with those of its calls.
+fn all_sites(function: &TypedFunction, totals: &[Totals]) -> u32
+    ensures { result ≡ added_up (sites_of totals.now) function.now.sites function.now.calls.items }
+{
+    function.calls.iter().fold(function.sites, |sum, call| {
+        sum.saturating_add(totals_at(totals, call.callee).sites)
+    })
+}
+
+/// How many calls inside one another a function has.
+fn all_calls(function: &TypedFunction, totals: &[Totals]) -> u32
+    ensures { result ≡ nested (calls_of totals.now) function.now.calls.items }
+{
+    function.calls.iter().fold(0, |most, call| {
+        most.max(totals_at(totals, call.callee).calls.saturating_add(1))
+    })
+}
+
+/// The totals of a function where those of its callees are these.
+#[tactic(auto, using(crate::proofs::Sums::sums_up, crate::proofs::Sums::nests))]
+fn own_totals(function: &TypedFunction, totals: &[Totals]) -> Totals
+    ensures variables { result.variables ≡ cut (own_variables (function_node function.now) (variables_of totals.now)) }
+    ensures sites { result.sites ≡ cut (own_sites (function_node function.now) (sites_of totals.now)) }
+    ensures calls { result.calls ≡ cut (own_calls (function_node function.now) (calls_of totals.now)) }
+    ensures nodes { result.size.nodes ≡ cut (own_nodes (function_node function.now) (nodes_of totals.now)) }
+    ensures depth { result.size.depth ≡ cut (own_depth (function_node function.now) (depth_of totals.now)) }
+    ensures control { result.size.control ≡ cut (own_control (function_node function.now) (control_of totals.now)) }
+{
+    let inner = Inner {
+        calls: function.calls.as_slice(),
+        totals,
+    };
+    Totals {
+        variables: all_variables(function, totals),
+        sites: all_sites(function, totals),
+        calls: all_calls(function, totals),
+        size: stmts_size(inner, function.body.as_slice()),
+    }
+}
+
+/// The totals of all functions where those of their callees are these.
+fn next_totals(
+    alloc: Global,
+    functions: &[TypedFunction],
+    totals: &[Totals],
+) -> Result<Vec<Totals>, AllocError>
+    ensures { IfOk result (λ next. next.items ≡ stepped (map function_node functions.now) totals.now) }
+{
+    functions
+        .iter()
+        .map(|function| own_totals(function, totals))
+        .collect(alloc)
+}
+
+/// The totals of the functions of a program. Each round goes one call deeper, so that there are no more rounds than calls
+/// inside one another.
+pub fn all_totals(alloc: Global, functions: &[TypedFunction]) -> Result<Vec<Totals>, AllocError>
+    ensures { IfOk result (λ totals. AreTotals (map function_node functions.now) (length functions.now) totals.items) }
+{
+    let mut totals = Vec::new(alloc);
+    for round in 0..functions.len() {
+        let next = next_totals(alloc, functions, totals.as_slice())?;
+        if next.as_slice() == totals.as_slice() {
+            return Ok(totals);
+        }
+        totals = next;
+    }
+    Ok(totals)
+}

@@ -1,0 +1,286 @@
+//! The typing of statements.
+ghost use Rattle.std.specs.Prelude.{◌≡◌, [], option_map};
+ghost use Rattle.ocl_ast.specs.Shapes.{arg_trees, stmt_tree, stmt_trees, target_tree, tree_of};
+ghost use Rattle.ocl_ast.specs.Trees.{AssignTree, CallStmtTree, DeclareTree, LocalArrayTree, ReturnTree};
+ghost use Rattle.ocl_types.specs.Answers.{MaybeTo, StmtTo, StmtsTo, TypesTo, placed_in, standing_of};
+ghost use Rattle.ocl_program.specs.Shapes.{stmt_node};
+ghost use Rattle.ocl_types.specs.Exprs.{typed, typed_option as typed_option_of};
+ghost use Rattle.ocl_types.specs.Stmts.{Standing as StandingIn, jump_in as jump_in_of, typed_stmt as typed_stmt_of, typed_stmts as typed_stmts_of};
+ghost use Rattle.ocl_types.specs.Tables.{NumbersOf, trees_of};
+
+use crate::calls::whole_call;
+use crate::changes::{change, typed_target};
+use crate::counts::typed_count;
+use crate::exprs::{MaybePart, typed_args, typed_expr, typed_option};
+use crate::faults::TypeFault;
+use crate::functions::{Functions, meaning_of};
+use crate::names::Binding;
+use crate::parts::TypedPart;
+use crate::scopes::NameTable;
+use crate::standing::{Place, Standing, next_number};
+use crate::uses::as_callee;
+use ocl_ast::{AssignOp, Expr, Gives, Ident, Stmt, Target};
+use ocl_program::{ArrayRef, LocalArray, TypedStmt, nodes};
+use std::alloc::Global;
+use vx_base::{Elem, Pos, Space};
+
+/// Types an expression of a statement.
+fn expr_in(
+    alloc: Global,
+    functions: &Functions<'_>,
+    st: &mut Standing<'_>,
+    expr: &Expr,
+) -> Result<TypedPart, TypeFault>
+    requires { NumbersOf functions.now.numbers.entries (trees_of functions.now.functions.now) }
+    ensures judged { TypesTo result st.new.calls.items (typed (trees_of functions.now.functions.now) st.old.scopes st.old.calls.items (tree_of expr.now)) }
+    ensures others { st.new ≡ record st.old { calls = st.new.calls } }
+{
+    typed_expr(alloc, functions, &st.scopes, &mut st.calls, expr)
+}
+
+/// Types an expression of a statement that may be left out.
+fn option_in(
+    alloc: Global,
+    functions: &Functions<'_>,
+    st: &mut Standing<'_>,
+    expr: &Option<Expr>,
+) -> Result<MaybePart, TypeFault>
+    requires { NumbersOf functions.now.numbers.entries (trees_of functions.now.functions.now) }
+    ensures judged { MaybeTo result st.new.calls.items (typed_option_of (trees_of functions.now.functions.now) st.old.scopes st.old.calls.items (option_map tree_of expr.now)) }
+    ensures others { st.new ≡ record st.old { calls = st.new.calls } }
+{
+    typed_option(alloc, functions, &st.scopes, &mut st.calls, expr)
+}
+
+/// Types a declaration of a variable.
+fn declare<'a>(
+    alloc: Global,
+    functions: &Functions<'_>,
+    place: Place,
+    st: &mut Standing<'a>,
+    elem: Elem,
+    constant: bool,
+    name: &'a Ident,
+    value: &Option<Expr>,
+) -> Result<TypedStmt, TypeFault>
+    requires { NumbersOf functions.now.numbers.entries (trees_of functions.now.functions.now) }
+    ensures { StmtTo result (standing_of st.new) (typed_stmt_of (placed_in (trees_of functions.now.functions.now) place) (standing_of st.old) (DeclareTree elem constant name.now (option_map tree_of value.now))) }
+{
+    let variable = st.variables;
+    st.declare_variable(alloc, name, elem, constant)?;
+    let value = option_in(alloc, functions, st, value)?;
+    Ok(TypedStmt::Declare {
+        variable,
+        elem,
+        value: value.expr,
+    })
+}
+
+/// Types a declaration of a `__local` array.
+fn declare_array<'a>(
+    alloc: Global,
+    functions: &Functions<'_>,
+    place: Place,
+    st: &mut Standing<'a>,
+    elem: Elem,
+    name: &'a Ident,
+    count: &Expr,
+) -> Result<TypedStmt, TypeFault>
+    requires { NumbersOf functions.now.numbers.entries (trees_of functions.now.functions.now) }
+    ensures { StmtTo result (standing_of st.new) (typed_stmt_of (placed_in (trees_of functions.now.functions.now) place) (standing_of st.old) (LocalArrayTree elem name.now (tree_of count.now))) }
+{
+    let array = u32::try_from(st.arrays.len()).unwrap_or(u32::MAX);
+    let binding = Binding::Array {
+        array: ArrayRef::Declared(array),
+        space: Space::Local,
+        elem,
+        readonly: false,
+    };
+    st.declare(alloc, name, binding)?;
+    let count = typed_count(alloc, functions, place, name.pos, count)?;
+    st.arrays.push(LocalArray {
+        elem,
+        count: count.value,
+    })?;
+    Ok(TypedStmt::LocalArray {
+        array,
+        count: count.expr,
+    })
+}
+
+/// Types an assignment.
+fn assign(
+    alloc: Global,
+    functions: &Functions<'_>,
+    place: Place,
+    st: &mut Standing<'_>,
+    target: &Target,
+    op: AssignOp,
+    value: &Option<Expr>,
+    pos: Pos,
+) -> Result<TypedStmt, TypeFault>
+    requires { NumbersOf functions.now.numbers.entries (trees_of functions.now.functions.now) }
+    ensures { StmtTo result (standing_of st.new) (typed_stmt_of (placed_in (trees_of functions.now.functions.now) place) (standing_of st.old) (AssignTree (target_tree target.now) op (option_map tree_of value.now) pos)) }
+{
+    let target = typed_target(alloc, functions, &st.scopes, &mut st.calls, target)?;
+    let value = option_in(alloc, functions, st, value)?;
+    Ok(change(target, op, value))
+}
+
+/// Types a call whose value is not used.
+fn call(
+    alloc: Global,
+    functions: &Functions<'_>,
+    place: Place,
+    st: &mut Standing<'_>,
+    name: &Ident,
+    args: &[Expr],
+) -> Result<TypedStmt, TypeFault>
+    requires { NumbersOf functions.now.numbers.entries (trees_of functions.now.functions.now) }
+    ensures { StmtTo result (standing_of st.new) (typed_stmt_of (placed_in (trees_of functions.now.functions.now) place) (standing_of st.old) (CallStmtTree name.now (arg_trees args.now))) }
+{
+    let meaning = meaning_of(functions, &st.scopes, name.text.as_slice());
+    let callee = as_callee(functions, name.pos, meaning)?;
+    let args = typed_args(alloc, functions, &st.scopes, &mut st.calls, callee, args)?;
+    let call = whole_call(name.pos, callee, &mut st.calls, args)?;
+    Ok(TypedStmt::Call(call.expr))
+}
+
+/// Numbers a barrier.
+fn barrier(st: &mut Standing<'_>) -> TypedStmt {
+    let site = st.sites;
+    st.sites = next_number(site);
+    TypedStmt::Barrier { site }
+}
+
+/// Types `return`: a value stands exactly where the function gives one.
+fn leave(
+    alloc: Global,
+    functions: &Functions<'_>,
+    place: Place,
+    st: &mut Standing<'_>,
+    value: &Option<Expr>,
+    pos: Pos,
+) -> Result<TypedStmt, TypeFault>
+    requires { NumbersOf functions.now.numbers.entries (trees_of functions.now.functions.now) }
+    ensures { StmtTo result (standing_of st.new) (typed_stmt_of (placed_in (trees_of functions.now.functions.now) place) (standing_of st.old) (ReturnTree (option_map tree_of value.now) pos)) }
+{
+    let wants = matches!(place.gives, Gives::Value(_));
+    if wants != value.is_some() {
+        return Err(TypeFault::Mismatch(pos));
+    }
+    let value = option_in(alloc, functions, st, value)?;
+    Ok(TypedStmt::Return(value.expr))
+}
+
+/// Types a statement. After a fault what the function has so far is not to be used.
+#[cycle(stmts)]
+pub fn typed_stmt<'a>(
+    alloc: Global,
+    functions: &Functions<'_>,
+    place: Place,
+    st: &mut Standing<'a>,
+    stmt: &'a Stmt,
+) -> Result<TypedStmt, TypeFault>
+    requires { NumbersOf functions.now.numbers.entries (trees_of functions.now.functions.now) }
+    ensures { StmtTo result (standing_of st.new) (typed_stmt_of (placed_in (trees_of functions.now.functions.now) place) (standing_of st.old) (stmt_tree stmt.now)) }
+{
+    match stmt {
+        Stmt::Declare {
+            elem,
+            constant,
+            name,
+            value,
+        } => declare(alloc, functions, place, st, *elem, *constant, name, value),
+        Stmt::LocalArray { elem, name, count } => {
+            declare_array(alloc, functions, place, st, *elem, name, count)
+        }
+        Stmt::Assign {
+            target,
+            op,
+            value,
+            pos,
+        } => assign(alloc, functions, place, st, target, *op, value, *pos),
+        Stmt::Call { name, args } => call(alloc, functions, place, st, name, args),
+        Stmt::Barrier { .. } => Ok(barrier(st)),
+        Stmt::If { test, yes, no } => {
+            let test = expr_in(alloc, functions, st, test)?;
+            let one = typed_stmt(alloc, functions, place.inner(), st, yes)?;
+            let other = match no {
+                Some(other) => Some(typed_stmt(alloc, functions, place.inner(), st, other)?),
+                None => None,
+            };
+            Ok(nodes::if_stmt(alloc, test.expr, one, other)?)
+        }
+        Stmt::While { test, body } => {
+            let test = expr_in(alloc, functions, st, test)?;
+            let body = typed_stmt(alloc, functions, place.in_turn(), st, body)?;
+            Ok(nodes::while_stmt(alloc, test.expr, body)?)
+        }
+        Stmt::Do { body, test } => {
+            let body = typed_stmt(alloc, functions, place.in_turn(), st, body)?;
+            let test = expr_in(alloc, functions, st, test)?;
+            Ok(nodes::do_stmt(alloc, body, test.expr)?)
+        }
+        Stmt::For {
+            first,
+            test,
+            step,
+            body,
+        } => {
+            st.scopes.open(NameTable::new(alloc))?;
+            let first = typed_stmts(alloc, functions, place.inner(), st, first)?;
+            let test = option_in(alloc, functions, st, test)?;
+            let step = typed_stmts(alloc, functions, place.inner(), st, step)?;
+            let body = typed_stmt(alloc, functions, place.in_turn(), st, body)?;
+            st.scopes.close();
+            Ok(nodes::for_stmt(alloc, first, test.expr, step, body)?)
+        }
+        Stmt::Break(pos) => jump(place, *pos, TypedStmt::Break),
+        Stmt::Continue(pos) => jump(place, *pos, TypedStmt::Continue),
+        Stmt::Return { value, pos } => leave(alloc, functions, place, st, value, *pos),
+        Stmt::Block(items) => {
+            st.scopes.open(NameTable::new(alloc))?;
+            let items = typed_stmts(alloc, functions, place.inner(), st, items)?;
+            st.scopes.close();
+            Ok(nodes::block(items))
+        }
+        Stmt::Empty => Ok(TypedStmt::Empty),
+    }
+}
+
+/// Types statements in order.
+#[cycle(stmts)]
+pub fn typed_stmts<'a>(
+    alloc: Global,
+    functions: &Functions<'_>,
+    place: Place,
+    st: &mut Standing<'a>,
+    stmts: &'a [Stmt],
+) -> Result<Vec<TypedStmt>, TypeFault>
+    requires { NumbersOf functions.now.numbers.entries (trees_of functions.now.functions.now) }
+    ensures { StmtsTo result (standing_of st.new) (typed_stmts_of (placed_in (trees_of functions.now.functions.now) place) [] (standing_of st.old) (stmt_trees stmts.now)) }
+{
+    let mut done = Vec::new(alloc);
+    for stmt in stmts {
+        match typed_stmt(alloc, functions, place, st, stmt) {
+            Ok(stmt) => match done.push(stmt) {
+                Ok(()) => {}
+                Err(_full) => return Err(TypeFault::Memory),
+            },
+            Err(fault) => return Err(fault),
+        }
+    }
+    Ok(done)
+}
+
+/// `break` or `continue`: a loop is round it.
+fn jump(place: Place, pos: Pos, jump: TypedStmt) -> Result<TypedStmt, TypeFault>
+    ensures { (st : StandingIn) → StmtTo result st (jump_in_of place.in_loop pos (stmt_node jump) st) }
+{
+    if place.in_loop {
+        Ok(jump)
+    } else {
+        Err(TypeFault::Mismatch(pos))
+    }
+}
