@@ -1,4 +1,4 @@
 pub mod Alike
+pub mod Deeper
 pub mod Leading
-pub mod Rounds
 pub mod Sums

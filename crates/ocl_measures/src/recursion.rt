@@ -27,6 +27,7 @@ fn leads_on(function: &TypedFunction, to: u32, marks: &[bool]) -> bool
 }
 
 /// Marks the functions that call function `to` or one that is marked.
+#[tactic(auto, using(crate::proofs::Leading::marks_of_functions))]
 fn next_marks(
     alloc: Global,
     functions: &[TypedFunction],

@@ -17,10 +17,13 @@ const NO_TOTALS: Totals = Totals {
 };
 
 /// The totals of a function, nothing where there is none.
-fn totals_at(totals: &[Totals], function: u32) -> Totals
+pub fn totals_at(totals: &[Totals], function: u32) -> Totals
     ensures variables { result.variables ≡ variables_of totals.now function }
     ensures sites { result.sites ≡ sites_of totals.now function }
     ensures calls { result.calls ≡ calls_of totals.now function }
+    ensures nodes { result.size.nodes ≡ nodes_of totals.now function }
+    ensures depth { result.size.depth ≡ depth_of totals.now function }
+    ensures control { result.size.control ≡ control_of totals.now function }
 {
     match totals.get(function as usize) {
         Some(totals) => *totals,

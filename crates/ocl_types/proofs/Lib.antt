@@ -1,3 +1,5 @@
+pub mod Lists
+pub mod NameLaws
 pub mod ScopeLaws
 pub mod Steps
 pub mod TableLaws

@@ -1,27 +1,35 @@
 -- What a part of the typing answers: what the judgement gives, or its fault, or that memory ran out.
-use Rattle.std.specs.Prelude.{◌≡◌, ◌⊎◌, ℕ, List, map, option_map, Result, Ok, Err}
+use Rattle.std.specs.Prelude.{◌≡◌, ◌⊎◌, ℕ, List, [], length, map, option_map, zip, Result, Ok, Err}
 use Rattle.std.specs.declared.alloc.Global.{Global}
 use Rattle.std.specs.declared.vec.Vec.{Vec}
 use Rattle.vx_base.specs.declared.types.Elem.{Elem}
 use Rattle.ocl_ast.specs.Trees.{FunctionTree}
-use Rattle.ocl_program.specs.Nodes.{ExprNode, StmtNode}
-use Rattle.ocl_program.specs.Shapes.{node_of, argument_node, stmt_node}
+use Rattle.ocl_ast.specs.declared.units.Function.{Function}
+use Rattle.ocl_program.specs.Nodes.{ExprNode, StmtNode, FunctionNode}
+use Rattle.ocl_program.specs.Shapes.{node_of, argument_node, stmt_node, typed_stmts, function_node}
 use Rattle.ocl_program.specs.declared.stmts.TypedStmt.{TypedStmt}
 use Rattle.ocl_types.specs.declared.args.Args.{Args}
 use Rattle.ocl_types.specs.declared.calls.CallPart.{CallPart}
 use Rattle.ocl_types.specs.declared.parts.TypedPart.{TypedPart}
 use Rattle.ocl_types.specs.declared.faults.TypeFault.{TypeFault}
 use Rattle.ocl_types.specs.declared.faults.TypeFault.TheVariants.{Memory}
+use Rattle.ocl_measures.specs.Totals.{AreTotals}
+use Rattle.ocl_measures.specs.declared.sizes.Totals.{Totals}
+use Rattle.ocl_types.specs.declared.bodies.TypedBody.{TypedBody}
 use Rattle.ocl_types.specs.declared.changes.Changed.{Changed as ChangedOf}
 use Rattle.ocl_types.specs.declared.changes.Changed.TheVariants.{Variable as VariableOf, Element as ElementOf}
 use Rattle.ocl_types.specs.declared.changes.ChangedPart.{ChangedPart}
 use Rattle.ocl_types.specs.declared.counts.CountPart.{CountPart}
 use Rattle.ocl_types.specs.declared.exprs.MaybePart.{MaybePart}
+use Rattle.ocl_types.specs.declared.functions.Functions.{Functions}
+use Rattle.ocl_types.specs.declared.file.Program.{Program}
 use Rattle.ocl_types.specs.declared.standing.Place.{Place as PlaceOf}
 use Rattle.ocl_types.specs.declared.standing.Standing.{Standing as StandingOf}
 use Rattle.ocl_types.specs.declared.uses.Callee.{Callee as CalleeOf}
 use Rattle.ocl_types.specs.declared.uses.Callee.TheVariants.{Helper as HelperOf, Builtin as BuiltinOf}
 use Rattle.ocl_types.specs.Exprs.{Typed, MaybeTyped, TypedCall, ArgsSofar, Callee, Helper, BuiltinCallee}
+use Rattle.ocl_types.specs.Functions.{bare_call, names_from}
+use Rattle.ocl_types.specs.Tables.{NumbersOf, trees_of}
 use Rattle.ocl_types.specs.Stmts.{Place, Standing, Changed, Variable, Element, TypedTarget, count_value}
 
 -- want of memory, or the judgement's fault
@@ -103,3 +111,48 @@ StmtTo (Err fault) after judged = Faults fault judged
 abbrev pub StmtsTo : Result (Vec TypedStmt Global) TypeFault → Standing → Result (List StmtNode × Standing) TypeFault → Type 0
 StmtsTo (Ok stmts) after judged = judged ≡ Ok (map stmt_node stmts.items, after)
 StmtsTo (Err fault) after judged = Faults fault judged
+
+-- the functions of a file by name
+abbrev pub NamesTo : Result Functions TypeFault → List Function → Type 0
+NamesTo (Ok fs) functions = (names_from [] (trees_of functions) ≡ Ok tt) × (fs.functions.now ≡ functions) × NumbersOf fs.numbers.entries (trees_of functions)
+NamesTo (Err fault) functions = Faults fault (names_from [] (trees_of functions))
+
+-- the function of a tree whose block is typed
+abbrev pub with_body : FunctionTree → TypedBody → FunctionNode
+with_body f body = record {
+  kernel = f.kernel;
+  name = f.name;
+  gives = f.gives;
+  params = f.params;
+  variables = body.variables;
+  sites = body.sites;
+  arrays = body.arrays.items;
+  calls = map bare_call body.calls.items;
+  body = typed_stmts body.items.items;
+}
+
+abbrev pub BodyTo : Result TypedBody TypeFault → FunctionTree → Result FunctionNode TypeFault → Type 0
+BodyTo (Ok body) f judged = judged ≡ Ok (with_body f body)
+BodyTo (Err fault) f judged = Faults fault judged
+
+-- the functions of trees whose blocks are typed
+abbrev pub with_bodies : List FunctionTree → List TypedBody → List FunctionNode
+with_bodies fs bodies = map (λ (p : FunctionTree × TypedBody). with_body p.0 p.1) (zip fs bodies)
+
+abbrev pub BodiesTo : Result (Vec TypedBody Global) TypeFault → List FunctionTree → Result (List FunctionNode) TypeFault → Type 0
+BodiesTo (Ok bodies) fs judged = (judged ≡ Ok (with_bodies fs bodies.items)) × (length bodies.items ≡ length fs)
+BodiesTo (Err fault) fs judged = Faults fault judged
+
+-- nothing, or a fault
+abbrev pub PassesTo : Result (Unit {0}) TypeFault → Result (Unit {0}) TypeFault → Type 0
+PassesTo (Ok passed) judged = judged ≡ Ok tt
+PassesTo (Err fault) judged = Faults fault judged
+
+abbrev pub TotalsTo : Result (Vec Totals Global) TypeFault → List FunctionNode → Result (Unit {0}) TypeFault → Type 0
+TotalsTo (Ok totals) program judged = (judged ≡ Ok tt) × AreTotals program (length program) totals.items
+TotalsTo (Err fault) program judged = Faults fault judged
+
+-- the program of a file, or its first fault
+abbrev pub ProgramTo : Result Program TypeFault → Result (List FunctionNode) TypeFault → Type 0
+ProgramTo (Ok program) judged = judged ≡ Ok (map function_node program.functions.items)
+ProgramTo (Err fault) judged = Faults fault judged

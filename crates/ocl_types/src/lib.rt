@@ -5,14 +5,17 @@
 #![tactic(auto)]
 
 pub mod args;
+pub mod bodies;
 pub mod builtins;
 pub mod calls;
 pub mod changes;
 pub mod counts;
 pub mod exprs;
 pub mod faults;
+pub mod file;
 pub mod functions;
 pub mod kinds;
+pub mod limits;
 pub mod names;
 pub mod parts;
 pub mod scopes;
@@ -21,3 +24,4 @@ pub mod stmts;
 pub mod uses;
 
 pub use faults::{Counted, TypeFault};
+pub use file::{Program, check};
