@@ -1,8 +1,11 @@
 -- Each round goes one call deeper, and a round that changes nothing is the last.
-use Rattle.std.proofs.Common.{◌≡◌, ℕ, zero, suc, ◌+◌, ◌-◌, ◌≤◌, List, [], map, slice_get, Option, None, Some, option_map, refl, sym, ap, ◌∙◌, subst, arith}
+use Rattle.std.proofs.Common.{◌≡◌, ℕ, zero, suc, ◌+◌, ◌-◌, ◌≤◌, List, [], ◌∷◌, map, slice_get, Option, None, Some, option_map, refl, sym, ap, ◌∙◌, subst, arith}
 use Rattle.std.proofs.lemmas.Option.{slice_get-map}
+use Rattle.ocl_program.specs.declared.functions.TypedFunction.{TypedFunction}
 use Rattle.ocl_program.specs.Nodes.{FunctionNode}
+use Rattle.ocl_program.specs.Shapes.{function_node}
 use Rattle.ocl_program.specs.Measures.{cut, where_some, expanded, of_function, own_calls, own_control, own_depth, own_nodes, own_sites, own_variables}
+use Rattle.ocl_measures.specs.declared.sizes.Size.{Size}
 use Rattle.ocl_measures.specs.declared.sizes.Totals.{Totals}
 use Rattle.ocl_measures.specs.Sizes.{total_of}
 use Rattle.ocl_measures.specs.Totals.{AreTotals, own_totals, stepped}
@@ -57,3 +60,16 @@ pub steady_at_once : (program : List FunctionNode) (totals : List Totals) (n m :
 steady_at_once program totals n m steady le are =
     let e : (m - n) + n ≡ m = omega arith in
     subst (λ k. AreTotals program k totals) e (stays program totals steady n (m - n) are)
+
+-- the totals of the functions are those of their trees
+pub totals_of_functions : (functions : List TypedFunction) (totals : List Totals) → map (λ (f : TypedFunction). own_totals totals (function_node f)) functions ≡ stepped (map function_node functions) totals
+totals_of_functions [] totals = refl
+totals_of_functions (f ∷ fs) totals = ap (λ (ts : List Totals). own_totals totals (function_node f) ∷ ts) (totals_of_functions fs totals)
+
+-- totals whose numbers are these
+pub totals_are : (variables sites calls : ℕ) (size : Size) (totals : List Totals) (f : FunctionNode) →
+    variables ≡ cut (own_variables f (total_of (λ (t : Totals). t.variables) totals)) → sites ≡ cut (own_sites f (total_of (λ (t : Totals). t.sites) totals)) →
+    calls ≡ cut (own_calls f (total_of (λ (t : Totals). t.calls) totals)) → size.nodes ≡ cut (own_nodes f (total_of (λ (t : Totals). t.size.nodes) totals)) →
+    size.depth ≡ cut (own_depth f (total_of (λ (t : Totals). t.size.depth) totals)) → size.control ≡ cut (own_control f (total_of (λ (t : Totals). t.size.control) totals)) →
+    own_totals totals f ≡ record { variables = variables; sites = sites; calls = calls; size = size }
+totals_are variables sites calls size totals f v s c n d g = cc

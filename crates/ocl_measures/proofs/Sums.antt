@@ -9,7 +9,7 @@ abbrev callees_in : List CallSite → List ℕ
 callees_in calls = map (λ (c : CallSite). c.callee) calls
 
 sums_from : (inner : ℕ → ℕ) (v : ℕ) (calls : List CallSite) → added_up inner (cut v) calls ≡ cut (v + sum (map inner (callees_in calls)))
-sums_from inner v [] = refl
+sums_from inner v [] = let e : cut v ≡ cut (v + 0) = omega arith in e
 sums_from inner v (c ∷ cs) =
     let one : cut (cut v + inner c.callee) ≡ cut (v + inner c.callee) = omega arith in
     let more : sum (map inner (callees_in (c ∷ cs))) ≡ inner c.callee + sum (map inner (callees_in cs)) = sum_by-cons (λ (x : ℕ). x) (inner c.callee) (map inner (callees_in cs)) in

@@ -1,6 +1,7 @@
 -- What the calls in a body call: by the table of calls and the totals of all functions.
 use Rattle.std.specs.Prelude.{ℕ, List, map, slice_get}
 use Rattle.ocl_program.specs.declared.functions.CallSite.{CallSite}
+use Rattle.ocl_program.specs.Nodes.{ExprNode, ArgNode, ValueNode, ArrayNode}
 use Rattle.ocl_program.specs.Measures.{where_some}
 use Rattle.ocl_measures.specs.declared.sizes.Inner.{Inner}
 use Rattle.ocl_measures.specs.declared.sizes.Totals.{Totals}
@@ -21,3 +22,8 @@ depth_at inner = at (λ (t : Totals). t.size.depth) inner
 
 abbrev pub control_at : Inner → ℕ → ℕ
 control_at inner = at (λ (t : Totals). t.size.control) inner
+
+-- what an argument has: what its expression has, or what an array's name has
+abbrev pub of_argument : (ExprNode → ℕ) → ℕ → ArgNode → ℕ
+of_argument value array (ValueNode e) = value e
+of_argument value array (ArrayNode a) = array

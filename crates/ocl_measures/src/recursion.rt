@@ -1,7 +1,7 @@
 //! Functions that reach a call of themselves.
 ghost use Rattle.std.specs.Prelude.{◌≡◌, IfOk, map};
 ghost use Rattle.ocl_program.specs.Shapes.{function_node};
-ghost use Rattle.ocl_measures.specs.Recursion.{is_recursive as is_recursive_of, marked, marked_next, some_leads};
+ghost use Rattle.ocl_measures.specs.Recursion.{is_recursive as is_recursive_of, marked, some_leads};
 
 use ocl_program::TypedFunction;
 use std::alloc::{AllocError, Global};
@@ -27,14 +27,13 @@ fn leads_on(function: &TypedFunction, to: u32, marks: &[bool]) -> bool
 }
 
 /// Marks the functions that call function `to` or one that is marked.
-#[tactic(auto, using(crate::proofs::Leading::marks_of_functions))]
 fn next_marks(
     alloc: Global,
     functions: &[TypedFunction],
     to: u32,
     marks: &[bool],
 ) -> Result<Vec<bool>, AllocError>
-    ensures { IfOk result (λ next. next.items ≡ marked_next (map function_node functions.now) to marks.now) }
+    ensures { IfOk result (λ next. next.items ≡ map (λ (f : TypedFunction). some_leads (marked marks.now) to f.calls.items) functions.now) }
 {
     functions
         .iter()
@@ -43,7 +42,7 @@ fn next_marks(
 }
 
 /// Whether a function can reach a call of itself.
-#[tactic(auto, using(crate::proofs::Leading::none_marked, crate::proofs::Leading::one_call_more, crate::proofs::Leading::steady_at_once))]
+#[tactic(auto, using(crate::proofs::Leading::marks_of_functions, crate::proofs::Leading::none_marked, crate::proofs::Leading::one_call_more, crate::proofs::Leading::steady_at_once))]
 pub fn is_recursive(
     alloc: Global,
     functions: &[TypedFunction],

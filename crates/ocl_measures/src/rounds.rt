@@ -1,11 +1,10 @@
 //! How large the functions of a program are with their calls expanded.
 ghost use Rattle.std.specs.Prelude.{◌≡◌, IfOk, ℕ, map, length};
-ghost use Rattle.ocl_program.specs.Measures.{cut, own_calls, own_control, own_depth, own_nodes, own_sites, own_variables};
 ghost use Rattle.ocl_program.specs.Shapes.{function_node};
-ghost use Rattle.ocl_measures.specs.Totals.{AreTotals, added_up, calls_of, control_of, depth_of, nested, nodes_of, sites_of, stepped, variables_of};
+ghost use Rattle.ocl_measures.specs.Totals.{AreTotals, added_up, calls_of, control_of, depth_of, nested, nodes_of, own_totals as own_totals_of, sites_of, variables_of};
 
-use crate::sizes::{Inner, NONE, Size, Totals, stmts_size};
-use ocl_program::{CallSite, TypedFunction};
+use crate::sizes::{Inner, NONE, Totals, stmts_size};
+use ocl_program::TypedFunction;
 use std::alloc::{AllocError, Global};
 
 /// A function of which nothing is known.
@@ -59,24 +58,20 @@ fn all_calls(function: &TypedFunction, totals: &[Totals]) -> u32
 }
 
 /// The totals of a function where those of its callees are these.
-#[tactic(auto, using(crate::proofs::Sums::sums_up, crate::proofs::Sums::nests))]
+#[tactic(auto, using(crate::proofs::Sums::sums_up, crate::proofs::Sums::nests, crate::proofs::Deeper::totals_are))]
 fn own_totals(function: &TypedFunction, totals: &[Totals]) -> Totals
-    ensures variables { result.variables ≡ cut (own_variables (function_node function.now) (variables_of totals.now)) }
-    ensures sites { result.sites ≡ cut (own_sites (function_node function.now) (sites_of totals.now)) }
-    ensures calls { result.calls ≡ cut (own_calls (function_node function.now) (calls_of totals.now)) }
-    ensures nodes { result.size.nodes ≡ cut (own_nodes (function_node function.now) (nodes_of totals.now)) }
-    ensures depth { result.size.depth ≡ cut (own_depth (function_node function.now) (depth_of totals.now)) }
-    ensures control { result.size.control ≡ cut (own_control (function_node function.now) (control_of totals.now)) }
+    ensures { result ≡ own_totals_of totals.now (function_node function.now) }
 {
     let inner = Inner {
         calls: function.calls.as_slice(),
         totals,
     };
+    let size = stmts_size(inner, function.body.as_slice());
     Totals {
         variables: all_variables(function, totals),
         sites: all_sites(function, totals),
         calls: all_calls(function, totals),
-        size: stmts_size(inner, function.body.as_slice()),
+        size,
     }
 }
 
@@ -86,7 +81,7 @@ fn next_totals(
     functions: &[TypedFunction],
     totals: &[Totals],
 ) -> Result<Vec<Totals>, AllocError>
-    ensures { IfOk result (λ next. next.items ≡ stepped (map function_node functions.now) totals.now) }
+    ensures { IfOk result (λ next. next.items ≡ map (λ (f : TypedFunction). own_totals_of totals.now (function_node f)) functions.now) }
 {
     functions
         .iter()
@@ -96,6 +91,7 @@ fn next_totals(
 
 /// The totals of the functions of a program. Each round goes one call deeper, so that there are no more rounds than calls
 /// inside one another.
+#[tactic(auto, using(crate::proofs::Deeper::none_known, crate::proofs::Deeper::totals_of_functions, crate::proofs::Deeper::one_round, crate::proofs::Deeper::steady_at_once))]
 pub fn all_totals(alloc: Global, functions: &[TypedFunction]) -> Result<Vec<Totals>, AllocError>
     ensures { IfOk result (λ totals. AreTotals (map function_node functions.now) (length functions.now) totals.items) }
 {

@@ -1,9 +1,9 @@
 //! How large expressions and statements are where the sizes of what they call are known.
-ghost use Rattle.std.specs.Prelude.{◌≡◌, ◌+◌, max, map, option_map};
+ghost use Rattle.std.specs.Prelude.{◌≡◌, ◌+◌, max, map, option_map, slice_get};
 ghost use Rattle.ocl_program.specs.Measures.{cut, nodes as nodes_of, args_nodes, depth as depth_of, args_depth, control as control_of, args_control, stmt_size as stmt_size_of, stmts_size as stmts_size_of, stmt_depth, stmts_depth, stmt_control, stmts_control, where_some};
 ghost use Rattle.ocl_program.specs.Nodes.{ExprNode, arg_nodes};
 ghost use Rattle.ocl_program.specs.Shapes.{argument_node, node_of, stmt_node, typed_stmts};
-ghost use Rattle.ocl_measures.specs.Sizes.{control_at, depth_at, nodes_at};
+ghost use Rattle.ocl_measures.specs.Sizes.{control_at, depth_at, nodes_at, of_argument, total_of};
 
 use ocl_program::{Argument, CallSite, TypedExpr, TypedStmt};
 
@@ -114,17 +114,37 @@ impl Size {
     }
 }
 
+/// The callee of a call.
+#[tactic(auto, using(crate::proofs::Lookups::callee_found, crate::proofs::Lookups::callee_missing))]
+fn callee_at(calls: &[CallSite], call: u32) -> Option<u32>
+    ensures { result ≡ slice_get (map (λ (c : CallSite). c.callee) calls.now) call }
+{
+    match calls.get(call as usize) {
+        Some(site) => Some(site.callee),
+        None => None,
+    }
+}
+
+/// The size of a function.
+fn function_size(totals: &[Totals], function: u32) -> Size
+    ensures nodes { result.nodes ≡ total_of (λ (t : Totals). t.size.nodes) totals.now function }
+    ensures depth { result.depth ≡ total_of (λ (t : Totals). t.size.depth) totals.now function }
+    ensures control { result.control ≡ total_of (λ (t : Totals). t.size.control) totals.now function }
+{
+    match totals.get(function as usize) {
+        Some(totals) => totals.size,
+        None => NONE,
+    }
+}
+
 /// The size of what a call calls.
 fn size_at(inner: Inner<'_>, call: u32) -> Size
     ensures nodes { result.nodes ≡ cut (nodes_at inner.entry call) }
     ensures depth { result.depth ≡ cut (depth_at inner.entry call) }
     ensures control { result.control ≡ cut (control_at inner.entry call) }
 {
-    match inner.calls.get(call as usize) {
-        Some(site) => match inner.totals.get(site.callee as usize) {
-            Some(totals) => totals.size,
-            None => NONE,
-        },
+    match callee_at(inner.calls, call) {
+        Some(callee) => function_size(inner.totals, callee),
         None => NONE,
     }
 }
@@ -164,6 +184,7 @@ pub fn expr_size(inner: Inner<'_>, expr: &TypedExpr) -> Size
 
 /// The size of some arguments.
 #[cycle(expr_sizes)]
+#[tactic(auto, using(crate::proofs::Steps::args_nodes_step, crate::proofs::Steps::args_depth_step, crate::proofs::Steps::args_control_step, crate::proofs::Steps::all_left))]
 fn args_size(inner: Inner<'_>, args: &[Argument]) -> Size
     ensures nodes { result.nodes ≡ cut (args_nodes (nodes_at inner.entry) (arg_nodes (map argument_node args.now))) }
     ensures depth { result.depth ≡ cut (args_depth (depth_at inner.entry) (arg_nodes (map argument_node args.now))) }
@@ -171,13 +192,22 @@ fn args_size(inner: Inner<'_>, args: &[Argument]) -> Size
 {
     let mut total = NONE;
     for arg in args {
-        let size = match arg {
-            Argument::Value(expr) => expr_size(inner, expr),
-            Argument::Array(_) => LEAF,
-        };
-        total = total.beside(size);
+        total = total.beside(argument_size(inner, arg));
     }
     total
+}
+
+/// The size of an argument: an array is a name.
+#[cycle(expr_sizes)]
+fn argument_size(inner: Inner<'_>, arg: &Argument) -> Size
+    ensures nodes { result.nodes ≡ cut (of_argument (nodes_of (nodes_at inner.entry)) 1 (argument_node arg.now)) }
+    ensures depth { result.depth ≡ cut (of_argument (depth_of (depth_at inner.entry)) 1 (argument_node arg.now)) }
+    ensures control { result.control ≡ cut (of_argument (control_of (control_at inner.entry)) 0 (argument_node arg.now)) }
+{
+    match arg {
+        Argument::Value(expr) => expr_size(inner, expr),
+        Argument::Array(_) => LEAF,
+    }
 }
 
 /// An operator between its operands.
@@ -283,6 +313,7 @@ pub fn stmt_size(inner: Inner<'_>, stmt: &TypedStmt) -> Size
 
 /// The size of some statements.
 #[cycle(stmt_sizes)]
+#[tactic(auto, using(crate::proofs::Steps::stmts_nodes_step, crate::proofs::Steps::stmts_depth_step, crate::proofs::Steps::stmts_control_step, crate::proofs::Steps::all_left))]
 pub fn stmts_size(inner: Inner<'_>, stmts: &[TypedStmt]) -> Size
     ensures nodes { result.nodes ≡ cut (stmts_size_of (nodes_at inner.entry) (typed_stmts stmts.now)) }
     ensures depth { result.depth ≡ cut (stmts_depth (depth_at inner.entry) (typed_stmts stmts.now)) }

@@ -6,15 +6,13 @@ use Rattle.vx_base.specs.declared.types.Elem.{Elem}
 use Rattle.ocl_ast.specs.Trees.{FunctionTree}
 use Rattle.ocl_ast.specs.declared.units.Function.{Function}
 use Rattle.ocl_program.specs.Nodes.{ExprNode, StmtNode, FunctionNode}
-use Rattle.ocl_program.specs.Shapes.{node_of, argument_node, stmt_node, typed_stmts, function_node}
+use Rattle.ocl_program.specs.Shapes.{node_of, argument_node, stmt_node, typed_stmts}
 use Rattle.ocl_program.specs.declared.stmts.TypedStmt.{TypedStmt}
 use Rattle.ocl_types.specs.declared.args.Args.{Args}
 use Rattle.ocl_types.specs.declared.calls.CallPart.{CallPart}
 use Rattle.ocl_types.specs.declared.parts.TypedPart.{TypedPart}
 use Rattle.ocl_types.specs.declared.faults.TypeFault.{TypeFault}
 use Rattle.ocl_types.specs.declared.faults.TypeFault.TheVariants.{Memory}
-use Rattle.ocl_measures.specs.Totals.{AreTotals}
-use Rattle.ocl_measures.specs.declared.sizes.Totals.{Totals}
 use Rattle.ocl_types.specs.declared.bodies.TypedBody.{TypedBody}
 use Rattle.ocl_types.specs.declared.changes.Changed.{Changed as ChangedOf}
 use Rattle.ocl_types.specs.declared.changes.Changed.TheVariants.{Variable as VariableOf, Element as ElementOf}
@@ -22,7 +20,6 @@ use Rattle.ocl_types.specs.declared.changes.ChangedPart.{ChangedPart}
 use Rattle.ocl_types.specs.declared.counts.CountPart.{CountPart}
 use Rattle.ocl_types.specs.declared.exprs.MaybePart.{MaybePart}
 use Rattle.ocl_types.specs.declared.functions.Functions.{Functions}
-use Rattle.ocl_types.specs.declared.file.Program.{Program}
 use Rattle.ocl_types.specs.declared.standing.Place.{Place as PlaceOf}
 use Rattle.ocl_types.specs.declared.standing.Standing.{Standing as StandingOf}
 use Rattle.ocl_types.specs.declared.uses.Callee.{Callee as CalleeOf}
@@ -142,17 +139,3 @@ with_bodies fs bodies = map (λ (p : FunctionTree × TypedBody). with_body p.0 p
 abbrev pub BodiesTo : Result (Vec TypedBody Global) TypeFault → List FunctionTree → Result (List FunctionNode) TypeFault → Type 0
 BodiesTo (Ok bodies) fs judged = (judged ≡ Ok (with_bodies fs bodies.items)) × (length bodies.items ≡ length fs)
 BodiesTo (Err fault) fs judged = Faults fault judged
-
--- nothing, or a fault
-abbrev pub PassesTo : Result (Unit {0}) TypeFault → Result (Unit {0}) TypeFault → Type 0
-PassesTo (Ok passed) judged = judged ≡ Ok tt
-PassesTo (Err fault) judged = Faults fault judged
-
-abbrev pub TotalsTo : Result (Vec Totals Global) TypeFault → List FunctionNode → Result (Unit {0}) TypeFault → Type 0
-TotalsTo (Ok totals) program judged = (judged ≡ Ok tt) × AreTotals program (length program) totals.items
-TotalsTo (Err fault) program judged = Faults fault judged
-
--- the program of a file, or its first fault
-abbrev pub ProgramTo : Result Program TypeFault → Result (List FunctionNode) TypeFault → Type 0
-ProgramTo (Ok program) judged = judged ≡ Ok (map function_node program.functions.items)
-ProgramTo (Err fault) judged = Faults fault judged

@@ -12,10 +12,8 @@ pub mod changes;
 pub mod counts;
 pub mod exprs;
 pub mod faults;
-pub mod file;
 pub mod functions;
 pub mod kinds;
-pub mod limits;
 pub mod names;
 pub mod parts;
 pub mod scopes;
@@ -24,4 +22,3 @@ pub mod stmts;
 pub mod uses;
 
 pub use faults::{Counted, TypeFault};
-pub use file::{Program, check};
