@@ -1,14 +1,13 @@
 -- Each round goes one call deeper, and a round that changes nothing is the last.
-use Rattle.std.proofs.Common.{◌≡◌, ℕ, zero, suc, ◌+◌, ◌-◌, ◌≤◌, List, [], ◌∷◌, map, slice_get, Option, None, Some, option_map, refl, sym, ap, ◌∙◌, subst, arith}
+use Rattle.std.proofs.Common.{◌≡◌, ℕ, zero, suc, ◌+◌, ◌-◌, ◌≤◌, List, [], ◌∷◌, map, length, slice_get, Option, None, Some, option_map, refl, sym, ap, ◌∙◌, subst, arith}
 use Rattle.std.proofs.lemmas.Option.{slice_get-map}
 use Rattle.ocl_program.specs.declared.functions.TypedFunction.{TypedFunction}
 use Rattle.ocl_program.specs.Nodes.{FunctionNode}
 use Rattle.ocl_program.specs.Shapes.{function_node}
 use Rattle.ocl_program.specs.Measures.{cut, where_some, expanded, of_function, own_calls, own_control, own_depth, own_nodes, own_sites, own_variables}
-use Rattle.ocl_measures.specs.declared.sizes.Size.{Size}
 use Rattle.ocl_measures.specs.declared.sizes.Totals.{Totals}
 use Rattle.ocl_measures.specs.Sizes.{total_of}
-use Rattle.ocl_measures.specs.Totals.{AreTotals, own_totals, stepped}
+use Rattle.ocl_measures.specs.Totals.{AreTotals, own_totals, stepped, variables_of, sites_of, calls_of, nodes_of, depth_of, control_of}
 use Rattle.ocl_measures.proofs.Alike.{Alike, Respects, variables_respect, sites_respect, calls_respect, nodes_respect, depth_respect, control_respect}
 
 -- before the first round nothing is known
@@ -66,10 +65,27 @@ pub totals_of_functions : (functions : List TypedFunction) (totals : List Totals
 totals_of_functions [] totals = refl
 totals_of_functions (f ∷ fs) totals = ap (λ (ts : List Totals). own_totals totals (function_node f) ∷ ts) (totals_of_functions fs totals)
 
+suc_is : (n : ℕ) → suc n ≡ n + 1
+suc_is n = omega arith
+
+-- one round in the code, which reads the totals as `seen`
+pub round_made : (functions : List TypedFunction) (n : ℕ) (totals seen next : List Totals) → AreTotals (map function_node functions) n totals → seen ≡ totals →
+    next ≡ map (λ (f : TypedFunction). own_totals seen (function_node f)) functions → AreTotals (map function_node functions) (n + 1) next
+round_made functions n totals seen next are read made =
+    let is : next ≡ stepped (map function_node functions) totals = made ∙ totals_of_functions functions seen ∙ ap (stepped (map function_node functions)) read in
+    subst (λ m. AreTotals (map function_node functions) m next) (suc_is n)
+        (subst (λ ts. AreTotals (map function_node functions) (suc n) ts) (sym is) (one_round (map function_node functions) n totals are))
+
+-- a round in the code that changes nothing
+pub round_steady : (functions : List TypedFunction) (n : ℕ) (totals seen next : List Totals) → AreTotals (map function_node functions) n totals → seen ≡ totals →
+    next ≡ map (λ (f : TypedFunction). own_totals seen (function_node f)) functions → next ≡ totals → n ≤ length functions → AreTotals (map function_node functions) (length functions) totals
+round_steady functions n totals seen next are read made same le =
+    let steady : stepped (map function_node functions) totals ≡ totals = ap (stepped (map function_node functions)) (sym read) ∙ sym (totals_of_functions functions seen) ∙ sym made ∙ same in
+    steady_at_once (map function_node functions) totals n (length functions) steady le are
+
 -- totals whose numbers are these
-pub totals_are : (variables sites calls : ℕ) (size : Size) (totals : List Totals) (f : FunctionNode) →
-    variables ≡ cut (own_variables f (total_of (λ (t : Totals). t.variables) totals)) → sites ≡ cut (own_sites f (total_of (λ (t : Totals). t.sites) totals)) →
-    calls ≡ cut (own_calls f (total_of (λ (t : Totals). t.calls) totals)) → size.nodes ≡ cut (own_nodes f (total_of (λ (t : Totals). t.size.nodes) totals)) →
-    size.depth ≡ cut (own_depth f (total_of (λ (t : Totals). t.size.depth) totals)) → size.control ≡ cut (own_control f (total_of (λ (t : Totals). t.size.control) totals)) →
-    own_totals totals f ≡ record { variables = variables; sites = sites; calls = calls; size = size }
-totals_are variables sites calls size totals f v s c n d g = cc
+pub totals_are : (made : Totals) (totals : List Totals) (f : FunctionNode) →
+    made.variables ≡ cut (own_variables f (variables_of totals)) → made.sites ≡ cut (own_sites f (sites_of totals)) → made.calls ≡ cut (own_calls f (calls_of totals)) →
+    made.size.nodes ≡ cut (own_nodes f (nodes_of totals)) → made.size.depth ≡ cut (own_depth f (depth_of totals)) → made.size.control ≡ cut (own_control f (control_of totals)) →
+    made ≡ own_totals totals f
+totals_are made totals f v s k n d g = λ i. record { variables = v i; sites = s i; calls = k i; size = record { nodes = n i; depth = d i; control = g i } }

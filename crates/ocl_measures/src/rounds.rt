@@ -1,5 +1,5 @@
 //! How large the functions of a program are with their calls expanded.
-ghost use Rattle.std.specs.Prelude.{◌≡◌, IfOk, ℕ, map, length};
+ghost use Rattle.std.specs.Prelude.{◌≡◌, ◌-◌, ◌≤◌, ◌^◌, IfOk, ℕ, map, length};
 ghost use Rattle.ocl_program.specs.Shapes.{function_node};
 ghost use Rattle.ocl_measures.specs.Totals.{AreTotals, added_up, calls_of, control_of, depth_of, nested, nodes_of, own_totals as own_totals_of, sites_of, variables_of};
 
@@ -32,7 +32,8 @@ pub fn totals_at(totals: &[Totals], function: u32) -> Totals
 
 /// A function's own variables with those of its calls.
 fn all_variables(function: &TypedFunction, totals: &[Totals]) -> u32
-    ensures { result ≡ added_up (variables_of totals.now) function.now.variables function.now.calls.items }
+    ensures sum { result ≡ added_up (variables_of totals.now) function.now.variables function.now.calls.items }
+    ensures fits { function.now.variables ≤ 2 ^ 32 - 1 }
 {
     function.calls.iter().fold(function.variables, |sum, call| {
         sum.saturating_add(totals_at(totals, call.callee).variables)
@@ -41,7 +42,8 @@ fn all_variables(function: &TypedFunction, totals: &[Totals]) -> u32
 
 /// A function's own barriers with those of its calls.
 fn all_sites(function: &TypedFunction, totals: &[Totals]) -> u32
-    ensures { result ≡ added_up (sites_of totals.now) function.now.sites function.now.calls.items }
+    ensures sum { result ≡ added_up (sites_of totals.now) function.now.sites function.now.calls.items }
+    ensures fits { function.now.sites ≤ 2 ^ 32 - 1 }
 {
     function.calls.iter().fold(function.sites, |sum, call| {
         sum.saturating_add(totals_at(totals, call.callee).sites)
@@ -58,7 +60,6 @@ fn all_calls(function: &TypedFunction, totals: &[Totals]) -> u32
 }
 
 /// The totals of a function where those of its callees are these.
-#[tactic(auto, using(crate::proofs::Sums::sums_up, crate::proofs::Sums::nests, crate::proofs::Deeper::totals_are))]
 fn own_totals(function: &TypedFunction, totals: &[Totals]) -> Totals
     ensures { result ≡ own_totals_of totals.now (function_node function.now) }
 {

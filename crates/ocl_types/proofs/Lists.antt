@@ -1,5 +1,5 @@
 -- The next item of a list that is gone through, as its image under a map.
-use Rattle.std.proofs.Common.{◌≡◌, ℕ, zero, suc, ◌+◌, ◌<◌, List, [], ◌∷◌, ◌++◌, map, length, take, drop, get_or, refl, sym, ap, ◌∙◌, arith}
+use Rattle.std.proofs.Common.{◌≡◌, ℕ, zero, suc, ◌+◌, ◌<◌, ◌≤◌, List, [], ◌∷◌, ◌++◌, map, length, take, drop, get_or, refl, sym, ap, ◌∙◌, arith}
 
 left_from : {A B : Type 0} (h : A → B) (xs : List A) (i : ℕ) (x : A) → i < length xs → x ≡ get_or xs i x → drop i (map h xs) ≡ h x ∷ drop (suc i) (map h xs)
 left_from h [] i x within is = absurd (omega arith)
@@ -21,3 +21,13 @@ next_left h xs i x within is = left_from h xs i x within is ∙ ap (λ j. h x �
 -- what is taken up to place i + 1 is what is taken up to i, and the item there
 pub next_taken : {A B : Type 0} (h : A → B) (xs : List A) (i : ℕ) (x : A) → i < length xs → x ≡ get_or xs i x → take (i + 1) (map h xs) ≡ take i (map h xs) ++ h x ∷ []
 next_taken h xs i x within is = sym (ap (λ j. take j (map h xs)) (suc_is i)) ∙ taken_to h xs i x within is
+
+behind : {A B : Type 0} (h : A → B) (xs : List A) (i : ℕ) → length xs ≤ i → drop i (map h xs) ≡ []
+behind h [] zero past = refl
+behind h [] (suc i) past = refl
+behind h (y ∷ ys) zero past = absurd (omega arith)
+behind h (y ∷ ys) (suc i) past = behind h ys i (omega arith)
+
+-- behind the last item nothing is left
+pub none_left : {A B : Type 0} (h : A → B) (xs : List A) (i : ℕ) → length xs ≤ i → drop i (map h xs) ≡ []
+none_left h xs i past = behind h xs i past

@@ -33,25 +33,34 @@ fn wanted(callee: Callee<'_>) -> usize
 }
 
 /// The first argument that is not of its parameter's kind.
+#[tactic(auto, using(crate::proofs::Strangers::stranger_here, crate::proofs::Strangers::no_stranger_here, crate::proofs::Strangers::no_param, crate::proofs::Strangers::none_given))]
 fn first_stranger(params: &[Param], given: &[Given]) -> Option<Pos>
     ensures { result ≡ first_stranger_of params.now given.now }
 {
-    params
-        .iter()
-        .zip(given)
-        .find(|(param, given)| !is_of_kind(param.kind, **given))
-        .map(|(_, given)| pos_of(*given))
+    for (place, one) in given.iter().enumerate() {
+        match params.get(place) {
+            Some(param) => {
+                if !is_of_kind(param.kind, *one) {
+                    return Some(pos_of(*one));
+                }
+            }
+            None => return None,
+        }
+    }
+    None
 }
 
 /// The first argument that is neither an int nor a uint.
+#[tactic(auto, using(crate::proofs::Strangers::no_word_here, crate::proofs::Strangers::word_here, crate::proofs::Strangers::no_more_words))]
 fn first_not_word(given: &[Given]) -> Option<Pos>
     ensures { result ≡ first_not_word_of given.now }
 {
-    given
-        .iter()
-        .copied()
-        .find(|given| !is_word(*given))
-        .map(pos_of)
+    for one in given {
+        if !is_word(*one) {
+            return Some(pos_of(*one));
+        }
+    }
+    None
 }
 
 /// The first argument of a wrong kind.

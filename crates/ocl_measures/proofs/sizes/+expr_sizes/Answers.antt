@@ -3,6 +3,7 @@ use Rattle.ocl_program.proofs.Rows.{call_node, builtin_node}
 use Rattle.ocl_program.specs.Measures.{nodes, args_nodes, depth, args_depth, control, args_control}
 use Rattle.ocl_program.specs.Nodes.{CallNode, BuiltinNode, arg_nodes}
 use Rattle.ocl_program.specs.Shapes.{argument_node, node_of}
+use Rattle.ocl_measures.proofs.Steps.{all_left}
 use Rattle.ocl_measures.specs.Sizes.{control_at, depth_at, nodes_at}
 use Rattle.ocl_measures.proofs.sizes.+expr_sizes.Goals as goal
 
@@ -47,3 +48,21 @@ expr_size-returns-in-Builtin-clause-control t c =
     let items : args_control i (arg_nodes (map argument_node c.deref-in-Builtin.result.now)) ≡ args_control i (arg_nodes (map argument_node c.in-Builtin.args.items)) = ap (λ xs. args_control i (arg_nodes (map argument_node xs))) c.deref-in-Builtin.ensures.value in
     let whole : control i (node_of c.args.expr.now) ≡ control i (BuiltinNode c.in-Builtin.which c.in-Builtin.unsigned (arg_nodes (map argument_node c.in-Builtin.args.items))) = ap (λ n. control i (node_of n)) c.in-Builtin.is ∙ ap (control i) (builtin_node c.in-Builtin.which c.in-Builtin.unsigned c.in-Builtin.args) in
     omega (arith, items, whole, c.args_size-in-Builtin.ensures.control, c.over-in-Builtin.ensures.control)
+
+pub args_size-returns-clause-nodes : goal.args_size-returns-clause-nodes
+args_size-returns-clause-nodes t c =
+    let none = all_left c.args.args.now c.loop-arg.arg-index (omega arith) in
+    let rest = ap (λ xs. args_nodes (nodes_at c.args.inner) (arg_nodes (map argument_node (xs)))) none in
+    omega (arith, rest, c.loop-arg.invariant)
+
+pub args_size-returns-clause-depth : goal.args_size-returns-clause-depth
+args_size-returns-clause-depth t c =
+    let none = all_left c.args.args.now c.loop-arg.arg-index (omega arith) in
+    let rest = ap (λ xs. args_depth (depth_at c.args.inner) (arg_nodes (map argument_node (xs)))) none in
+    omega (arith, rest, c.loop-arg.invariant)
+
+pub args_size-returns-clause-control : goal.args_size-returns-clause-control
+args_size-returns-clause-control t c =
+    let none = all_left c.args.args.now c.loop-arg.arg-index (omega arith) in
+    let rest = ap (λ xs. args_control (control_at c.args.inner) (arg_nodes (map argument_node (xs)))) none in
+    omega (arith, rest, c.loop-arg.invariant)

@@ -4,6 +4,7 @@ use Rattle.ocl_program.proofs.Rows.{block_node, for_node}
 use Rattle.ocl_program.specs.Measures.{stmt_size, stmts_size, stmt_depth, stmts_depth, stmt_control, stmts_control}
 use Rattle.ocl_program.specs.Nodes.{BlockNode, ForNode}
 use Rattle.ocl_program.specs.Shapes.{node_of, stmt_node, typed_stmts}
+use Rattle.ocl_measures.proofs.Steps.{all_left}
 use Rattle.ocl_measures.specs.Sizes.{control_at, depth_at, nodes_at}
 use Rattle.ocl_measures.proofs.sizes.+stmt_sizes.Goals as goal
 
@@ -57,3 +58,21 @@ stmt_size-returns-in-For-clause-control t c =
     let whole : stmt_control i (stmt_node c.args.stmt.now) ≡ stmt_control i (ForNode (typed_stmts c.in-For.first.items) (option_map node_of c.in-For.test) (typed_stmts c.in-For.step.items) (stmt_node c.in-For.body.value)) =
         ap (λ n. stmt_control i (stmt_node n)) c.in-For.is ∙ ap (stmt_control i) (for_node c.in-For.first c.in-For.test c.in-For.step c.in-For.body) in
     omega (arith, step, body, first, whole, c.stmts_size.ensures.control, c.stmt_size-in-For.ensures.control, c.beside-turn.ensures.control, c.stmts_size-in-For.ensures.control, c.option_size-in-For.ensures.control, c.repeated-in-For.ensures.control, c.beside.ensures.control)
+
+pub stmts_size-returns-clause-nodes : goal.stmts_size-returns-clause-nodes
+stmts_size-returns-clause-nodes t c =
+    let none = all_left c.args.stmts.now c.loop-stmt.stmt-index (omega arith) in
+    let rest = ap (λ xs. stmts_size (nodes_at c.args.inner) (typed_stmts (xs))) none in
+    omega (arith, rest, c.loop-stmt.invariant)
+
+pub stmts_size-returns-clause-depth : goal.stmts_size-returns-clause-depth
+stmts_size-returns-clause-depth t c =
+    let none = all_left c.args.stmts.now c.loop-stmt.stmt-index (omega arith) in
+    let rest = ap (λ xs. stmts_depth (depth_at c.args.inner) (typed_stmts (xs))) none in
+    omega (arith, rest, c.loop-stmt.invariant)
+
+pub stmts_size-returns-clause-control : goal.stmts_size-returns-clause-control
+stmts_size-returns-clause-control t c =
+    let none = all_left c.args.stmts.now c.loop-stmt.stmt-index (omega arith) in
+    let rest = ap (λ xs. stmts_control (control_at c.args.inner) (typed_stmts (xs))) none in
+    omega (arith, rest, c.loop-stmt.invariant)
