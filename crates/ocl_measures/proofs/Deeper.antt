@@ -74,7 +74,7 @@ pub round_made : (functions : List TypedFunction) (n : ℕ) (totals seen next : 
 round_made functions n totals seen next are read made =
     let is : next ≡ stepped (map function_node functions) totals = made ∙ totals_of_functions functions seen ∙ ap (stepped (map function_node functions)) read in
     subst (λ m. AreTotals (map function_node functions) m next) (suc_is n)
-        (subst (λ ts. AreTotals (map function_node functions) (suc n) ts) (sym is) (one_round (map function_node functions) n totals are))
+    (subst (λ ts. AreTotals (map function_node functions) (suc n) ts) (sym is) (one_round (map function_node functions) n totals are))
 
 -- a round in the code that changes nothing
 pub round_steady : (functions : List TypedFunction) (n : ℕ) (totals seen next : List Totals) → AreTotals (map function_node functions) n totals → seen ≡ totals →

@@ -29,10 +29,12 @@ one_function onward to (Some f) = refl
 
 pub one_call_more : (program : List FunctionNode) (to n : ℕ) (marks : List Bool) → AreMarks program to n marks → AreMarks program to (suc n) (marked_next program to marks)
 unfolding leads
-one_call_more program to n marks are = record { each = λ k.
-    ap (λ (found : Option Bool). unwrap_or found false) (slice_get-map (λ (f : FunctionNode). some_leads (marked marks) to f.calls) program k) ∙
-    one_function (marked marks) to (slice_get program k) ∙
-    ap (λ (onward : ℕ → Bool). some_leads onward to (calls_at (slice_get program k))) (fun_ext are.each) }
+one_call_more program to n marks are = record {
+  each = λ k.
+      ap (λ (found : Option Bool). unwrap_or found false) (slice_get-map (λ (f : FunctionNode). some_leads (marked marks) to f.calls) program k) ∙
+      one_function (marked marks) to (slice_get program k) ∙
+      ap (λ (onward : ℕ → Bool). some_leads onward to (calls_at (slice_get program k))) (fun_ext are.each);
+}
 
 -- the marks of the functions are those of their trees
 pub marks_of_functions : (functions : List TypedFunction) (to : ℕ) (marks : List Bool) →
@@ -61,7 +63,7 @@ pub round_made : (functions : List TypedFunction) (to n : ℕ) (marks seen next 
 round_made functions to n marks seen next are read made =
     let is : next ≡ marked_next (map function_node functions) to marks = made ∙ marks_of_functions functions to seen ∙ ap (marked_next (map function_node functions) to) read in
     subst (λ m. AreMarks (map function_node functions) to m next) (suc_is n)
-        (subst (λ ms. AreMarks (map function_node functions) to (suc n) ms) (sym is) (one_call_more (map function_node functions) to n marks are))
+    (subst (λ ms. AreMarks (map function_node functions) to (suc n) ms) (sym is) (one_call_more (map function_node functions) to n marks are))
 
 -- a round in the code that changes nothing
 pub round_steady : (functions : List TypedFunction) (to n : ℕ) (marks seen next : List Bool) → AreMarks (map function_node functions) to n marks → seen ≡ marks →

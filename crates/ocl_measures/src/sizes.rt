@@ -177,7 +177,9 @@ pub fn expr_size(inner: Inner<'_>, expr: &TypedExpr) -> Size
             expr_size(inner, yes),
             expr_size(inner, no),
         ),
-        TypedExpr::Call { call, args } => args_size(inner, args).beside(size_at(inner, *call)).over(),
+        TypedExpr::Call { call, args } => args_size(inner, args)
+            .beside(size_at(inner, *call))
+            .over(),
         TypedExpr::Builtin { args, .. } => args_size(inner, args).over(),
     }
 }

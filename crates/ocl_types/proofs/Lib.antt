@@ -1,5 +1,6 @@
 pub mod Lists
 pub mod NameLaws
+pub mod Rules
 pub mod ScopeLaws
 pub mod Steps
 pub mod Strangers

@@ -16,6 +16,7 @@ use Rattle.ocl_program.specs.declared.functions.LocalArray.{LocalArray}
 use Rattle.ocl_program.specs.Nodes.{ExprNode, NumberNode, UnaryNode, BinaryNode, BothNode, EitherNode, ParenNode, StmtNode, DeclareNode, LocalArrayNode, SetVariableNode, SetElementNode, CallStmtNode, BarrierNode, IfNode, IfElseNode, WhileNode, DoNode, ForNode, BreakNode, ContinueNode, ReturnNode, BlockNode, EmptyNode, stmt_nodes}
 use Rattle.ocl_program.specs.Values.{binary_value, unary_value}
 use Rattle.ocl_program.specs.Measures.{cut}
+use Rattle.ocl_types.specs.declared.changes.WritableArray.{WritableArray}
 use Rattle.ocl_types.specs.declared.faults.TypeFault.{TypeFault}
 use Rattle.ocl_types.specs.declared.faults.TypeFault.TheVariants.{Unknown, Twice, Mismatch}
 use Rattle.ocl_types.specs.declared.names.Binding.{Binding}
@@ -133,10 +134,6 @@ assigned_name pos calls (BuiltinMeaning b) = Err (Unknown pos)
 assigned_name pos calls UnknownMeaning = Err (Unknown pos)
 
 -- an array of which an element is assigned
-pub record WritableArray : Type 0 where
-  pub array : ArrayRef
-  pub elem : Elem
-
 abbrev pub assigned_array : Pos → Meaning → Result WritableArray TypeFault
 assigned_array pos (Bound (ScalarBinding variable elem constant)) = Err (Mismatch pos)
 assigned_array pos (Bound (ArrayBinding array space elem readonly)) = if readonly then Err (Mismatch pos) else Ok (record { array = array; elem = elem })

@@ -1,5 +1,5 @@
 //! The typing of functions: their parameters and their blocks.
-ghost use Rattle.std.specs.Prelude.{◌≡◌, [], map, zip_with};
+ghost use Rattle.std.specs.Prelude.{◌≡◌, []};
 ghost use Rattle.ocl_ast.specs.Shapes.{function_tree};
 ghost use Rattle.ocl_types.specs.Answers.{BodiesTo, BodyTo, StepsTo, standing_of};
 ghost use Rattle.ocl_types.specs.Functions.{typed_function, typed_functions, with_param, with_params};

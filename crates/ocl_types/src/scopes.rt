@@ -83,7 +83,7 @@ impl<'a> Scopes<'a> {
     /// Opens a scope with some names.
     #[tactic(auto, using(crate::proofs::ScopeLaws::scope_opens))]
     pub fn open(&mut self, table: NameTable<'a>) -> Result<(), AllocFailed<NameTable<'a>>>
-        ensures { OnOk result (self.new ≡ table ∷ self.old) }
+        ensures { OnOk result (self.new ≡ table.entry ∷ self.old) }
     {
         self.tables.push(table)?;
         Ok(())

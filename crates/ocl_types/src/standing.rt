@@ -1,9 +1,8 @@
 //! What a function has so far, and where a statement stands.
-ghost use Rattle.std.specs.Prelude.{◌≡◌, List, IfOk, IfErr};
-ghost use Rattle.ocl_ast.specs.Trees.{FunctionTree};
-ghost use Rattle.ocl_types.specs.Answers.{StepsTo, placed_in, standing_of};
+ghost use Rattle.std.specs.Prelude.{◌≡◌, IfOk, IfErr};
+ghost use Rattle.ocl_types.specs.Answers.{StepsTo, standing_of};
 ghost use Rattle.ocl_types.specs.Functions.{at_start};
-ghost use Rattle.ocl_types.specs.Stmts.{declared, declared_variable, in_turn, inner, one_more};
+ghost use Rattle.ocl_types.specs.Stmts.{declared, declared_variable, one_more};
 ghost use Rattle.ocl_types.specs.declared.faults.TypeFault.TheVariants as fault;
 ghost use Rattle.ocl_types.specs.declared.names.Binding.TheVariants as binding_of;
 
@@ -24,29 +23,6 @@ pub struct Place {
     pub in_loop: bool,
     /// Whether it is an item of the outermost block of a kernel.
     pub outermost: bool,
-}
-
-impl Place {
-    /// Inside a statement that stands here.
-    pub fn inner(self) -> Place
-        ensures { (functions : List FunctionTree) → placed_in functions result ≡ inner (placed_in functions self) }
-    {
-        Place {
-            outermost: false,
-            ..self
-        }
-    }
-
-    /// Inside a loop that stands here.
-    pub fn in_turn(self) -> Place
-        ensures { (functions : List FunctionTree) → placed_in functions result ≡ in_turn (placed_in functions self) }
-    {
-        Place {
-            in_loop: true,
-            outermost: false,
-            ..self
-        }
-    }
 }
 
 /// What a function has so far. Its variables and barriers are counted up to 2^32 - 1.
@@ -107,6 +83,7 @@ impl<'a> Standing<'a> {
     }
 
     /// Declares a variable, whose number is that of the variables so far.
+    #[tactic(auto, using(crate::proofs::Steps::fault_onward, crate::proofs::Rules::steps_behind))]
     pub fn declare_variable(
         &mut self,
         alloc: Global,

@@ -5,7 +5,7 @@ ghost use Rattle.ocl_ast.specs.Trees.{AssignTree, CallStmtTree, DeclareTree, Loc
 ghost use Rattle.ocl_types.specs.Answers.{MaybeTo, StmtTo, StmtsTo, TypesTo, placed_in, standing_of};
 ghost use Rattle.ocl_program.specs.Shapes.{stmt_node};
 ghost use Rattle.ocl_types.specs.Exprs.{typed, typed_option as typed_option_of};
-ghost use Rattle.ocl_types.specs.Stmts.{Standing as StandingIn, jump_in as jump_in_of, typed_stmt as typed_stmt_of, typed_stmts as typed_stmts_of};
+ghost use Rattle.ocl_types.specs.Stmts.{Standing as StandingIn, jump_in as jump_in_of, typed_stmt as typed_stmt_of, typed_stmts as typed_stmts_of, with_calls};
 ghost use Rattle.ocl_types.specs.Tables.{NumbersOf, trees_of};
 
 use crate::calls::whole_call;
@@ -33,7 +33,7 @@ fn expr_in(
 ) -> Result<TypedPart, TypeFault>
     requires { NumbersOf functions.now.numbers.entries (trees_of functions.now.functions.now) }
     ensures judged { TypesTo result st.new.calls.items (typed (trees_of functions.now.functions.now) st.old.scopes st.old.calls.items (tree_of expr.now)) }
-    ensures others { st.new ≡ record st.old { calls = st.new.calls } }
+    ensures others { standing_of st.new ≡ with_calls st.new.calls.items (standing_of st.old) }
 {
     typed_expr(alloc, functions, &st.scopes, &mut st.calls, expr)
 }
@@ -47,12 +47,13 @@ fn option_in(
 ) -> Result<MaybePart, TypeFault>
     requires { NumbersOf functions.now.numbers.entries (trees_of functions.now.functions.now) }
     ensures judged { MaybeTo result st.new.calls.items (typed_option_of (trees_of functions.now.functions.now) st.old.scopes st.old.calls.items (option_map tree_of expr.now)) }
-    ensures others { st.new ≡ record st.old { calls = st.new.calls } }
+    ensures others { standing_of st.new ≡ with_calls st.new.calls.items (standing_of st.old) }
 {
     typed_option(alloc, functions, &st.scopes, &mut st.calls, expr)
 }
 
 /// Types a declaration of a variable.
+#[tactic(auto, using(crate::proofs::Steps::fault_onward, crate::proofs::Steps::fault_behind, crate::proofs::Rules::stmt_behind))]
 fn declare<'a>(
     alloc: Global,
     functions: &Functions<'_>,
@@ -77,6 +78,7 @@ fn declare<'a>(
 }
 
 /// Types a declaration of a `__local` array.
+#[tactic(auto, using(crate::proofs::Steps::fault_onward, crate::proofs::Steps::fault_behind, crate::proofs::Rules::stmt_behind))]
 fn declare_array<'a>(
     alloc: Global,
     functions: &Functions<'_>,
@@ -109,6 +111,7 @@ fn declare_array<'a>(
 }
 
 /// Types an assignment.
+#[tactic(auto, using(crate::proofs::Steps::fault_onward, crate::proofs::Steps::fault_behind, crate::proofs::Rules::stmt_behind))]
 fn assign(
     alloc: Global,
     functions: &Functions<'_>,
@@ -128,6 +131,7 @@ fn assign(
 }
 
 /// Types a call whose value is not used.
+#[tactic(auto, using(crate::proofs::Steps::fault_onward, crate::proofs::Steps::fault_behind, crate::proofs::Rules::stmt_behind))]
 fn call(
     alloc: Global,
     functions: &Functions<'_>,
@@ -154,6 +158,7 @@ fn barrier(st: &mut Standing<'_>) -> TypedStmt {
 }
 
 /// Types `return`: a value stands exactly where the function gives one.
+#[tactic(auto, using(crate::proofs::Steps::fault_onward, crate::proofs::Steps::fault_behind, crate::proofs::Rules::stmt_behind))]
 fn leave(
     alloc: Global,
     functions: &Functions<'_>,
@@ -175,6 +180,7 @@ fn leave(
 
 /// Types a statement. After a fault what the function has so far is not to be used.
 #[cycle(stmts)]
+#[tactic(auto, using(crate::proofs::Steps::fault_onward, crate::proofs::Steps::fault_behind, crate::proofs::Rules::stmt_behind, crate::proofs::Rules::block_seen, crate::proofs::Rules::for_seen, crate::proofs::Rules::nodes_seen))]
 pub fn typed_stmt<'a>(
     alloc: Global,
     functions: &Functions<'_>,
@@ -185,6 +191,15 @@ pub fn typed_stmt<'a>(
     requires { NumbersOf functions.now.numbers.entries (trees_of functions.now.functions.now) }
     ensures { StmtTo result (standing_of st.new) (typed_stmt_of (placed_in (trees_of functions.now.functions.now) place) (standing_of st.old) (stmt_tree stmt.now)) }
 {
+    let inside = Place {
+        outermost: false,
+        ..place
+    };
+    let turn = Place {
+        in_loop: true,
+        outermost: false,
+        ..place
+    };
     match stmt {
         Stmt::Declare {
             elem,
@@ -205,20 +220,20 @@ pub fn typed_stmt<'a>(
         Stmt::Barrier { .. } => Ok(barrier(st)),
         Stmt::If { test, yes, no } => {
             let test = expr_in(alloc, functions, st, test)?;
-            let one = typed_stmt(alloc, functions, place.inner(), st, yes)?;
+            let one = typed_stmt(alloc, functions, inside, st, yes)?;
             let other = match no {
-                Some(other) => Some(typed_stmt(alloc, functions, place.inner(), st, other)?),
+                Some(other) => Some(typed_stmt(alloc, functions, inside, st, other)?),
                 None => None,
             };
             Ok(nodes::if_stmt(alloc, test.expr, one, other)?)
         }
         Stmt::While { test, body } => {
             let test = expr_in(alloc, functions, st, test)?;
-            let body = typed_stmt(alloc, functions, place.in_turn(), st, body)?;
+            let body = typed_stmt(alloc, functions, turn, st, body)?;
             Ok(nodes::while_stmt(alloc, test.expr, body)?)
         }
         Stmt::Do { body, test } => {
-            let body = typed_stmt(alloc, functions, place.in_turn(), st, body)?;
+            let body = typed_stmt(alloc, functions, turn, st, body)?;
             let test = expr_in(alloc, functions, st, test)?;
             Ok(nodes::do_stmt(alloc, body, test.expr)?)
         }
@@ -229,10 +244,10 @@ pub fn typed_stmt<'a>(
             body,
         } => {
             st.scopes.open(NameTable::new(alloc))?;
-            let first = typed_stmts(alloc, functions, place.inner(), st, first)?;
+            let first = typed_stmts(alloc, functions, inside, st, first)?;
             let test = option_in(alloc, functions, st, test)?;
-            let step = typed_stmts(alloc, functions, place.inner(), st, step)?;
-            let body = typed_stmt(alloc, functions, place.in_turn(), st, body)?;
+            let step = typed_stmts(alloc, functions, inside, st, step)?;
+            let body = typed_stmt(alloc, functions, turn, st, body)?;
             st.scopes.close();
             Ok(nodes::for_stmt(alloc, first, test.expr, step, body)?)
         }
@@ -241,7 +256,7 @@ pub fn typed_stmt<'a>(
         Stmt::Return { value, pos } => leave(alloc, functions, place, st, value, *pos),
         Stmt::Block(items) => {
             st.scopes.open(NameTable::new(alloc))?;
-            let items = typed_stmts(alloc, functions, place.inner(), st, items)?;
+            let items = typed_stmts(alloc, functions, inside, st, items)?;
             st.scopes.close();
             Ok(nodes::block(items))
         }

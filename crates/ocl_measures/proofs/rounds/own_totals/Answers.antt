@@ -9,7 +9,7 @@ pub returns : goal.returns
 returns c =
     let t = c.args.totals.now in let f = c.args.function.now in
     totals_are (record { variables = c.all_variables.result; sites = c.all_sites.result; calls = c.all_calls.result; size = c.stmts_size-size.result }) t (function_node f)
-        (c.all_variables.ensures.sum ∙ sums_up (variables_of t) f.variables f.calls.items c.all_variables.ensures.fits)
-        (c.all_sites.ensures.sum ∙ sums_up (sites_of t) f.sites f.calls.items c.all_sites.ensures.fits)
-        (c.all_calls.ensures ∙ nests (calls_of t) f.calls.items)
-        (search rules) (search rules) (search rules)
+    (c.all_variables.ensures.sum ∙ sums_up (variables_of t) f.variables f.calls.items c.all_variables.ensures.fits)
+    (c.all_sites.ensures.sum ∙ sums_up (sites_of t) f.sites f.calls.items c.all_sites.ensures.fits)
+    (c.all_calls.ensures ∙ nests (calls_of t) f.calls.items)
+    (search rules) (search rules) (search rules)

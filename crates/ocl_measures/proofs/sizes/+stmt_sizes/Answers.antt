@@ -22,7 +22,7 @@ stmt_size-returns-in-For-clause-nodes t c =
     let body : stmt_size i (stmt_node c.deref-in-For-2.result.now) ≡ stmt_size i (stmt_node c.in-For.body.value) = ap (λ b. stmt_size i (stmt_node b)) c.deref-in-For-2.ensures in
     let first : stmts_size i (typed_stmts c.deref-in-For-3.result.now) ≡ stmts_size i (typed_stmts c.in-For.first.items) = ap (λ xs. stmts_size i (typed_stmts xs)) c.deref-in-For-3.ensures.value in
     let whole : stmt_size i (stmt_node c.args.stmt.now) ≡ stmt_size i (ForNode (typed_stmts c.in-For.first.items) (option_map node_of c.in-For.test) (typed_stmts c.in-For.step.items) (stmt_node c.in-For.body.value)) =
-        ap (λ n. stmt_size i (stmt_node n)) c.in-For.is ∙ ap (stmt_size i) (for_node c.in-For.first c.in-For.test c.in-For.step c.in-For.body) in
+    ap (λ n. stmt_size i (stmt_node n)) c.in-For.is ∙ ap (stmt_size i) (for_node c.in-For.first c.in-For.test c.in-For.step c.in-For.body) in
     omega (arith, step, body, first, whole, c.stmts_size.ensures.nodes, c.stmt_size-in-For.ensures.nodes, c.beside-turn.ensures.nodes, c.stmts_size-in-For.ensures.nodes, c.option_size-in-For.ensures.nodes, c.repeated-in-For.ensures.nodes, c.beside.ensures.nodes)
 
 pub stmt_size-returns-in-Block-clause-depth : goal.stmt_size-returns-in-Block-clause-depth
@@ -39,7 +39,7 @@ stmt_size-returns-in-For-clause-depth t c =
     let body : stmt_depth i (stmt_node c.deref-in-For-2.result.now) ≡ stmt_depth i (stmt_node c.in-For.body.value) = ap (λ b. stmt_depth i (stmt_node b)) c.deref-in-For-2.ensures in
     let first : stmts_depth i (typed_stmts c.deref-in-For-3.result.now) ≡ stmts_depth i (typed_stmts c.in-For.first.items) = ap (λ xs. stmts_depth i (typed_stmts xs)) c.deref-in-For-3.ensures.value in
     let whole : stmt_depth i (stmt_node c.args.stmt.now) ≡ stmt_depth i (ForNode (typed_stmts c.in-For.first.items) (option_map node_of c.in-For.test) (typed_stmts c.in-For.step.items) (stmt_node c.in-For.body.value)) =
-        ap (λ n. stmt_depth i (stmt_node n)) c.in-For.is ∙ ap (stmt_depth i) (for_node c.in-For.first c.in-For.test c.in-For.step c.in-For.body) in
+    ap (λ n. stmt_depth i (stmt_node n)) c.in-For.is ∙ ap (stmt_depth i) (for_node c.in-For.first c.in-For.test c.in-For.step c.in-For.body) in
     omega (arith, step, body, first, whole, c.stmts_size.ensures.depth, c.stmt_size-in-For.ensures.depth, c.beside-turn.ensures.depth, c.stmts_size-in-For.ensures.depth, c.option_size-in-For.ensures.depth, c.repeated-in-For.ensures.depth, c.beside.ensures.depth)
 
 pub stmt_size-returns-in-Block-clause-control : goal.stmt_size-returns-in-Block-clause-control
@@ -56,7 +56,7 @@ stmt_size-returns-in-For-clause-control t c =
     let body : stmt_control i (stmt_node c.deref-in-For-2.result.now) ≡ stmt_control i (stmt_node c.in-For.body.value) = ap (λ b. stmt_control i (stmt_node b)) c.deref-in-For-2.ensures in
     let first : stmts_control i (typed_stmts c.deref-in-For-3.result.now) ≡ stmts_control i (typed_stmts c.in-For.first.items) = ap (λ xs. stmts_control i (typed_stmts xs)) c.deref-in-For-3.ensures.value in
     let whole : stmt_control i (stmt_node c.args.stmt.now) ≡ stmt_control i (ForNode (typed_stmts c.in-For.first.items) (option_map node_of c.in-For.test) (typed_stmts c.in-For.step.items) (stmt_node c.in-For.body.value)) =
-        ap (λ n. stmt_control i (stmt_node n)) c.in-For.is ∙ ap (stmt_control i) (for_node c.in-For.first c.in-For.test c.in-For.step c.in-For.body) in
+    ap (λ n. stmt_control i (stmt_node n)) c.in-For.is ∙ ap (stmt_control i) (for_node c.in-For.first c.in-For.test c.in-For.step c.in-For.body) in
     omega (arith, step, body, first, whole, c.stmts_size.ensures.control, c.stmt_size-in-For.ensures.control, c.beside-turn.ensures.control, c.stmts_size-in-For.ensures.control, c.option_size-in-For.ensures.control, c.repeated-in-For.ensures.control, c.beside.ensures.control)
 
 pub stmts_size-returns-clause-nodes : goal.stmts_size-returns-clause-nodes
