@@ -1,4 +1,5 @@
 pub mod Lists
+pub mod Loops
 pub mod NameLaws
 pub mod Rules
 pub mod ScopeLaws
@@ -7,3 +8,6 @@ pub mod Strangers
 pub mod TableLaws
 pub mod WorkedFaults
 pub mod WorkedTypes
+pub mod Filing
+pub mod Passing
+pub mod Placing

@@ -31,3 +31,10 @@ behind h (y ∷ ys) (suc i) past = behind h ys i (omega arith)
 -- behind the last item nothing is left
 pub none_left : {A B : Type 0} (h : A → B) (xs : List A) (i : ℕ) → length xs ≤ i → drop i (map h xs) ≡ []
 none_left h xs i past = behind h xs i past
+
+-- how many are taken
+pub take_counted : {A B : Type 0} (h : A → B) (xs : List A) (i : ℕ) → i ≤ length xs → i ≡ length (take i (map h xs))
+take_counted h [] zero within = refl
+take_counted h [] (suc i) within = absurd (omega arith)
+take_counted h (x ∷ xs) zero within = refl
+take_counted h (x ∷ xs) (suc i) within = ap suc (take_counted h xs i (omega arith))

@@ -56,3 +56,7 @@ one_name_more earlier more f free = ap (λ b. if b then Err (Twice f.name.pos) e
 pub name_twice : (earlier more : List FunctionTree) (f : FunctionTree) → is_some (function_from 0 f.name.text earlier) || is_some (builtin_named f.name.text) ≡ true →
     names_from earlier (f ∷ more) ≡ Err (Twice f.name.pos)
 name_twice earlier more f taken = ap (λ b. if b then Err (Twice f.name.pos) else names_from (earlier ++ f ∷ []) more) taken
+
+pub none_found : {A : Type 0} (o : Option A) (b : Bool) → is_some o || b ≡ false → o ≡ None
+none_found None b h = refl
+none_found (Some x) b h = cc

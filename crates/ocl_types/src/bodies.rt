@@ -103,6 +103,7 @@ fn typed_body(
 }
 
 /// Types the functions of a file in order.
+#[tactic(auto, using(crate::proofs::Loops::body_taken, crate::proofs::Loops::body_refused, crate::proofs::Loops::bodies_done, crate::proofs::Lists::take_counted))]
 pub fn typed_bodies(alloc: Global, functions: &Functions<'_>) -> Result<Vec<TypedBody>, TypeFault>
     requires { NumbersOf functions.now.numbers.entries (trees_of functions.now.functions.now) }
     ensures { BodiesTo result (trees_of functions.now.functions.now) (typed_functions (trees_of functions.now.functions.now) [] (trees_of functions.now.functions.now)) }

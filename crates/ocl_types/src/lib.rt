@@ -12,13 +12,18 @@ pub mod changes;
 pub mod counts;
 pub mod exprs;
 pub mod faults;
+pub mod file;
 pub mod functions;
 pub mod kinds;
+pub mod limits;
 pub mod names;
 pub mod parts;
+pub mod programs;
 pub mod scopes;
 pub mod standing;
 pub mod stmts;
 pub mod uses;
 
 pub use faults::{Counted, TypeFault};
+pub use file::check;
+pub use programs::Program;

@@ -1,5 +1,7 @@
 //! What a function has so far, and where a statement stands.
-ghost use Rattle.std.specs.Prelude.{◌≡◌, IfOk, IfErr};
+ghost use Rattle.std.specs.Prelude.{◌≡◌, false, IfOk, IfErr};
+ghost use Rattle.vx_base.specs.declared.types.Space.TheVariants as space;
+ghost use Rattle.ocl_program.specs.declared.exprs.ArrayRef.TheVariants as array_of;
 ghost use Rattle.ocl_types.specs.Answers.{StepsTo, standing_of};
 ghost use Rattle.ocl_types.specs.Functions.{at_start};
 ghost use Rattle.ocl_types.specs.Stmts.{declared, declared_variable, one_more};
@@ -10,9 +12,9 @@ use crate::faults::TypeFault;
 use crate::names::Binding;
 use crate::scopes::{NameTable, Scopes};
 use ocl_ast::{Gives, Ident};
-use ocl_program::LocalArray;
+use ocl_program::{ArrayRef, LocalArray};
 use std::alloc::Global;
-use vx_base::Elem;
+use vx_base::{Elem, Space};
 
 /// Where a statement stands.
 #[derive(Clone, Copy)]
@@ -97,6 +99,28 @@ impl<'a> Standing<'a> {
             variable: self.variables,
             elem,
             constant,
+        };
+        self.declare(alloc, name, binding)?;
+        self.variables = next_number(self.variables);
+        Ok(())
+    }
+
+    /// Declares a `__local` array of a number, which counts as a variable.
+    #[tactic(auto, using(crate::proofs::Steps::fault_onward, crate::proofs::Rules::steps_behind))]
+    pub fn declare_array(
+        &mut self,
+        alloc: Global,
+        name: &'a Ident,
+        elem: Elem,
+        array: u32,
+    ) -> Result<(), TypeFault>
+        ensures { StepsTo result (standing_of self.new) (declared_variable name.now (λ variable. binding_of.Array (array_of.Declared array) space.Local elem false) (standing_of self.old)) }
+    {
+        let binding = Binding::Array {
+            array: ArrayRef::Declared(array),
+            space: Space::Local,
+            elem,
+            readonly: false,
         };
         self.declare(alloc, name, binding)?;
         self.variables = next_number(self.variables);

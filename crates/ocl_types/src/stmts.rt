@@ -3,9 +3,10 @@ ghost use Rattle.std.specs.Prelude.{◌≡◌, [], option_map};
 ghost use Rattle.ocl_ast.specs.Shapes.{arg_trees, stmt_tree, stmt_trees, target_tree, tree_of};
 ghost use Rattle.ocl_ast.specs.Trees.{AssignTree, CallStmtTree, DeclareTree, LocalArrayTree, ReturnTree};
 ghost use Rattle.ocl_types.specs.Answers.{MaybeTo, StmtTo, StmtsTo, TypesTo, placed_in, standing_of};
+ghost use Rattle.ocl_program.specs.Nodes.{BarrierNode};
 ghost use Rattle.ocl_program.specs.Shapes.{stmt_node};
 ghost use Rattle.ocl_types.specs.Exprs.{typed, typed_option as typed_option_of};
-ghost use Rattle.ocl_types.specs.Stmts.{Standing as StandingIn, jump_in as jump_in_of, typed_stmt as typed_stmt_of, typed_stmts as typed_stmts_of, with_calls};
+ghost use Rattle.ocl_types.specs.Stmts.{Standing as StandingIn, jump_in as jump_in_of, one_more, typed_stmt as typed_stmt_of, typed_stmts as typed_stmts_of, with_calls};
 ghost use Rattle.ocl_types.specs.Tables.{NumbersOf, trees_of};
 
 use crate::calls::whole_call;
@@ -14,15 +15,14 @@ use crate::counts::typed_count;
 use crate::exprs::{MaybePart, typed_args, typed_expr, typed_option};
 use crate::faults::TypeFault;
 use crate::functions::{Functions, meaning_of};
-use crate::names::Binding;
 use crate::parts::TypedPart;
 use crate::scopes::NameTable;
 use crate::standing::{Place, Standing, next_number};
 use crate::uses::as_callee;
 use ocl_ast::{AssignOp, Expr, Gives, Ident, Stmt, Target};
-use ocl_program::{ArrayRef, LocalArray, TypedStmt, nodes};
+use ocl_program::{LocalArray, TypedStmt, nodes};
 use std::alloc::Global;
-use vx_base::{Elem, Pos, Space};
+use vx_base::{Elem, Pos};
 
 /// Types an expression of a statement.
 fn expr_in(
@@ -92,13 +92,7 @@ fn declare_array<'a>(
     ensures { StmtTo result (standing_of st.new) (typed_stmt_of (placed_in (trees_of functions.now.functions.now) place) (standing_of st.old) (LocalArrayTree elem name.now (tree_of count.now))) }
 {
     let array = u32::try_from(st.arrays.len()).unwrap_or(u32::MAX);
-    let binding = Binding::Array {
-        array: ArrayRef::Declared(array),
-        space: Space::Local,
-        elem,
-        readonly: false,
-    };
-    st.declare(alloc, name, binding)?;
+    st.declare_array(alloc, name, elem, array)?;
     let count = typed_count(alloc, functions, place, name.pos, count)?;
     st.arrays.push(LocalArray {
         elem,
@@ -151,7 +145,10 @@ fn call(
 }
 
 /// Numbers a barrier.
-fn barrier(st: &mut Standing<'_>) -> TypedStmt {
+fn barrier(st: &mut Standing<'_>) -> TypedStmt
+    ensures node { stmt_node result ≡ BarrierNode st.old.sites }
+    ensures after { standing_of st.new ≡ record (standing_of st.old) { sites = one_more st.old.sites } }
+{
     let site = st.sites;
     st.sites = next_number(site);
     TypedStmt::Barrier { site }
@@ -218,14 +215,24 @@ pub fn typed_stmt<'a>(
         } => assign(alloc, functions, place, st, target, *op, value, *pos),
         Stmt::Call { name, args } => call(alloc, functions, place, st, name, args),
         Stmt::Barrier { .. } => Ok(barrier(st)),
-        Stmt::If { test, yes, no } => {
+        Stmt::If {
+            test,
+            yes,
+            no: None,
+        } => {
             let test = expr_in(alloc, functions, st, test)?;
             let one = typed_stmt(alloc, functions, inside, st, yes)?;
-            let other = match no {
-                Some(other) => Some(typed_stmt(alloc, functions, inside, st, other)?),
-                None => None,
-            };
-            Ok(nodes::if_stmt(alloc, test.expr, one, other)?)
+            Ok(nodes::if_stmt(alloc, test.expr, one, None)?)
+        }
+        Stmt::If {
+            test,
+            yes,
+            no: Some(no),
+        } => {
+            let test = expr_in(alloc, functions, st, test)?;
+            let one = typed_stmt(alloc, functions, inside, st, yes)?;
+            let other = typed_stmt(alloc, functions, inside, st, no)?;
+            Ok(nodes::if_stmt(alloc, test.expr, one, Some(other))?)
         }
         Stmt::While { test, body } => {
             let test = expr_in(alloc, functions, st, test)?;
