@@ -1,22 +1,23 @@
 -- One more parameter, statement or function of those that are left.
-use Rattle.std.proofs.Common.{◌≡◌, ◌⊎◌, inl, inr, ℕ, zero, suc, ◌+◌, ◌<◌, ◌≤◌, List, [], ◌∷◌, ◌++◌, map, zip, length, take, drop, get_or, Result, Ok, Err, refl, sym, ap, subst, ◌∙◌, arith}
+use Rattle.std.proofs.Common.{◌≡◌, ◌⊎◌, inl, inr, ℕ, zero, suc, ◌+◌, ◌<◌, ◌≤◌, false, List, [], ◌∷◌, ◌++◌, map, zip, length, take, drop, get_or, Result, Ok, Err, refl, sym, ap, subst, ◌∙◌, arith}
 use Rattle.std.proofs.lemmas.List.{map-append}
 use Rattle.ocl_ast.specs.Shapes.{function_tree, stmt_tree, stmt_trees}
 use Rattle.ocl_ast.specs.Trees.{FunctionTree}
 use Rattle.ocl_ast.specs.declared.stmts.Stmt.{Stmt}
 use Rattle.ocl_ast.specs.declared.units.Function.{Function}
 use Rattle.ocl_ast.specs.declared.units.Param.{Param}
-use Rattle.ocl_program.specs.Nodes.{FunctionNode, StmtNode}
-use Rattle.ocl_program.specs.Shapes.{stmt_node}
+use Rattle.ocl_program.specs.Nodes.{FunctionNode, StmtNode, StmtNodes}
+use Rattle.ocl_program.specs.Shapes.{stmt_node, typed_stmts as typed_items}
 use Rattle.ocl_program.specs.declared.stmts.TypedStmt.{TypedStmt}
 use Rattle.ocl_types.specs.declared.bodies.TypedBody.{TypedBody}
 use Rattle.ocl_types.specs.declared.faults.TypeFault.{TypeFault}
 use Rattle.ocl_types.specs.Answers.{Faults, with_bodies, with_body}
 use Rattle.ocl_types.specs.Exprs.{◌>>=◌}
-use Rattle.ocl_types.specs.Functions.{typed_function, typed_functions, with_param, with_params}
+use Rattle.ocl_types.specs.Functions.{at_start, made_of, typed_function, typed_functions, with_param, with_params}
 use Rattle.ocl_types.specs.Stmts.{Place, Standing, typed_stmt, typed_stmts}
 use Rattle.ocl_types.specs.Tables.{trees_of}
 use Rattle.ocl_types.proofs.Lists.{next_left, next_taken, none_left}
+use Rattle.ocl_types.proofs.Rules.{nodes_seen}
 use Rattle.ocl_types.proofs.Steps.{fault_onward}
 
 left_from : {A : Type 0} (xs : List A) (i : ℕ) (x : A) → i < length xs → x ≡ get_or xs i x → drop i xs ≡ x ∷ drop (suc i) xs
@@ -105,3 +106,16 @@ body_refused fs functions i f fault before whole within is faults known =
 pub bodies_done : (fs : List FunctionTree) (functions : List Function) (i : ℕ) (before : List FunctionNode) (whole : Result (List FunctionNode) TypeFault) → length functions ≤ i →
     typed_functions fs before (drop i (trees_of functions)) ≡ whole → whole ≡ Ok before
 bodies_done fs functions i before whole past known = sym known ∙ ap (typed_functions fs before) (none_left function_tree functions i past)
+
+-- a function whose parameters and block are typed
+pub body_made : (fs : List FunctionTree) (f : Function) (start st after : Standing) (params : List Param) (stmts : List Stmt) (items : List TypedStmt) →
+    start ≡ at_start → params ≡ f.params → with_params 0 start params ≡ Ok st → stmts ≡ f.body.items →
+    typed_stmts (record { functions = fs; gives = f.gives; in_loop = false; outermost = f.kernel }) [] st (stmt_trees stmts) ≡ Ok (map stmt_node items, after) →
+    typed_function fs (function_tree f) ≡ Ok (record (made_of (function_tree f) (map stmt_node items, after)) { body = typed_items items })
+body_made fs f start st after params stmts items new read declared seen typed =
+    let place : Place = record { functions = fs; gives = f.gives; in_loop = false; outermost = f.kernel } in
+    let first : with_params 0 at_start f.params ≡ Ok st = ap (λ s. with_params 0 s f.params) (sym new) ∙ ap (with_params 0 start) (sym read) ∙ declared in
+    let second : typed_stmts place [] st (stmt_trees f.body.items) ≡ Ok (map stmt_node items, after) = ap (λ l. typed_stmts place [] st (stmt_trees l)) (sym seen) ∙ typed in
+    ap (λ (r : Result Standing TypeFault). r >>= λ (s : Standing). typed_stmts place [] s (stmt_trees f.body.items) >>= λ (d : List StmtNode × Standing). Ok (made_of (function_tree f) d)) first ∙
+    ap (λ (r : Result (List StmtNode × Standing) TypeFault). r >>= λ (d : List StmtNode × Standing). Ok (made_of (function_tree f) d)) second ∙
+    ap (λ (b : StmtNodes). Ok (record (made_of (function_tree f) (map stmt_node items, after)) { body = b })) (sym (nodes_seen items))

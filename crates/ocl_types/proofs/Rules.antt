@@ -10,7 +10,7 @@ use Rattle.ocl_ast.specs.declared.stmts.Target.{Target}
 use Rattle.ocl_ast.specs.declared.stmts.Target.TheVariants.{Name as NameOf}
 use Rattle.ocl_ast.specs.declared.stmts.Stmt.{Stmt, Block, Do, For}
 use Rattle.ocl_program.specs.Nodes.{StmtNode, AndStmt, DoNode, ForNode, stmt_nodes}
-use Rattle.ocl_program.specs.Shapes.{stmt_node, typed_stmts}
+use Rattle.ocl_program.specs.Shapes.{stmt_node, typed_stmts as typed_items}
 use Rattle.ocl_program.specs.declared.stmts.TypedStmt.{TypedStmt}
 use Rattle.ocl_types.specs.declared.changes.ChangedPart.{ChangedPart}
 use Rattle.ocl_types.specs.declared.faults.TypeFault.{TypeFault}
@@ -41,7 +41,7 @@ pub for_seen : (first : Vec Stmt Global) (test : Option Expr) (step : Vec Stmt G
 for_seen first test step body = for_tree first test step body
 
 -- typed statements in order
-pub nodes_seen : (stmts : List TypedStmt) → typed_stmts stmts ≡ stmt_nodes (map stmt_node stmts)
+pub nodes_seen : (stmts : List TypedStmt) → typed_items stmts ≡ stmt_nodes (map stmt_node stmts)
 nodes_seen [] = refl
 nodes_seen (s ∷ ss) = ap (λ more. AndStmt (stmt_node s) more) (nodes_seen ss)
 
