@@ -115,3 +115,7 @@ for_typed place st tree first test step body f s t b is one two three four =
     ap (λ (r : Result MaybeTyped TypeFault). r >>= λ (t : MaybeTyped). with_step place step body f t) two ∙
     ap (λ (r : Result Listed TypeFault). r >>= λ (s : Listed). with_turn place body f t s) three ∙
     ap (λ (r : Result (StmtNode × Standing) TypeFault). r >>= λ (b : StmtNode × Standing). Ok (ForNode (stmt_nodes f.0) t.expr (stmt_nodes s.0) b.0, closed b.1)) four
+
+-- the same fault behind a state that is the same
+pub along : {A : Type 0} (fault : TypeFault) (judged : Standing → Result A TypeFault) (one other : Standing) → one ≡ other → Faults fault (judged one) → Faults fault (judged other)
+along fault judged one other same faults = subst (λ (s : Standing). Faults fault (judged s)) same faults
