@@ -14,7 +14,7 @@ pub typed_stmt-typed_stmts-requires : goal.typed_stmt-typed_stmts-requires
 typed_stmt-typed_stmts-requires t c = (search rules, c.requires)
 
 pub typed_stmt-typed_stmts-requires-in-For : goal.typed_stmt-typed_stmts-requires-in-For
-typed_stmt-typed_stmts-requires-in-For t c = (grind (arith, common_steps), c.requires)
+typed_stmt-typed_stmts-requires-in-For t c = (search rules, c.requires)
 
 pub typed_stmt-returns-in_err-test-in-Do : goal.typed_stmt-returns-in_err-test-in-Do
 typed_stmt-returns-in_err-test-in-Do t c =
