@@ -1,7 +1,7 @@
 //! The typing of statements.
 ghost use Rattle.std.specs.Prelude.{◌≡◌, [], option_map};
 ghost use Rattle.ocl_ast.specs.Shapes.{arg_trees, stmt_tree, stmt_trees, target_tree, tree_of};
-ghost use Rattle.ocl_ast.specs.Trees.{AssignTree, CallStmtTree, DeclareTree, LocalArrayTree, ReturnTree};
+ghost use Rattle.ocl_ast.specs.Trees.{AssignTree, CallStmtTree, DeclareTree, ForTree, LocalArrayTree, ReturnTree};
 ghost use Rattle.ocl_types.specs.Answers.{MaybeTo, StmtTo, StmtsTo, TypesTo, placed_in, standing_of};
 ghost use Rattle.ocl_program.specs.Nodes.{BarrierNode};
 ghost use Rattle.ocl_program.specs.Shapes.{stmt_node};
@@ -249,15 +249,7 @@ pub fn typed_stmt<'a>(
             test,
             step,
             body,
-        } => {
-            st.scopes.open(NameTable::new(alloc))?;
-            let first = typed_stmts(alloc, functions, inside, st, first)?;
-            let test = option_in(alloc, functions, st, test)?;
-            let step = typed_stmts(alloc, functions, inside, st, step)?;
-            let body = typed_stmt(alloc, functions, turn, st, body)?;
-            st.scopes.close();
-            Ok(nodes::for_stmt(alloc, first, test.expr, step, body)?)
-        }
+        } => typed_for(alloc, functions, place, st, first, test, step, body),
         Stmt::Break(pos) => jump(place, *pos, TypedStmt::Break),
         Stmt::Continue(pos) => jump(place, *pos, TypedStmt::Continue),
         Stmt::Return { value, pos } => leave(alloc, functions, place, st, value, *pos),
@@ -269,6 +261,40 @@ pub fn typed_stmt<'a>(
         }
         Stmt::Empty => Ok(TypedStmt::Empty),
     }
+}
+
+/// Types `for`: its head and its body share a scope.
+#[cycle(stmts)]
+#[tactic(auto, using(crate::proofs::Steps::fault_onward, crate::proofs::Steps::fault_behind, crate::proofs::Rules::stmt_behind, crate::proofs::Rules::nodes_seen))]
+pub fn typed_for<'a>(
+    alloc: Global,
+    functions: &Functions<'_>,
+    place: Place,
+    st: &mut Standing<'a>,
+    first: &'a [Stmt],
+    test: &Option<Expr>,
+    step: &'a [Stmt],
+    body: &'a Stmt,
+) -> Result<TypedStmt, TypeFault>
+    requires { NumbersOf functions.now.numbers.entries (trees_of functions.now.functions.now) }
+    ensures { StmtTo result (standing_of st.new) (typed_stmt_of (placed_in (trees_of functions.now.functions.now) place) (standing_of st.old) (ForTree (stmt_trees first.now) (option_map tree_of test.now) (stmt_trees step.now) (stmt_tree body.now))) }
+{
+    let inside = Place {
+        outermost: false,
+        ..place
+    };
+    let turn = Place {
+        in_loop: true,
+        outermost: false,
+        ..place
+    };
+    st.scopes.open(NameTable::new(alloc))?;
+    let first = typed_stmts(alloc, functions, inside, st, first)?;
+    let test = option_in(alloc, functions, st, test)?;
+    let step = typed_stmts(alloc, functions, inside, st, step)?;
+    let body = typed_stmt(alloc, functions, turn, st, body)?;
+    st.scopes.close();
+    Ok(nodes::for_stmt(alloc, first, test.expr, step, body)?)
 }
 
 /// Types statements in order.
