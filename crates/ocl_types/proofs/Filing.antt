@@ -68,7 +68,7 @@ pub placed_more : (V S : ℕ → ℕ) (v s v' s' : ℕ) (calls : List CallSite) 
 placed_more V S v s v' s' calls k c sofar more whole within is fits_v fits_s next_v next_s pushed known =
     let ks = map (λ (c : CallSite). c.callee) (drop (k + 1) calls) in
     let rest : sites_from V S v' s' ks ≡ sites_from V S (v + V c.callee) (s + S c.callee) ks =
-        sites_alike V V S S (λ j. refl) (λ j. refl) v' (v + V c.callee) s' (s + S c.callee) (ap cut next_v ∙ cut_again (v + V c.callee)) (ap cut next_s ∙ cut_again (s + S c.callee)) ks in
+    sites_alike V V S S (λ j. refl) (λ j. refl) v' (v + V c.callee) s' (s + S c.callee) (ap cut next_v ∙ cut_again (v + V c.callee)) (ap cut next_s ∙ cut_again (s + S c.callee)) ks in
     let here : record { callee = c.callee; variables = cut v; sites = cut s } ≡ record { callee = c.callee; variables = v; sites = s } = λ i. record { callee = c.callee; variables = fits_cut v fits_v i; sites = fits_cut s fits_s i } in
     let left : drop k calls ≡ c ∷ drop (k + 1) calls = left_from calls k c within is ∙ ap (λ j. c ∷ drop j calls) (suc_is k) in
     ap (λ l. l ++ sites_from V S v' s' ks) pushed ∙ append_assoc sofar (record { callee = c.callee; variables = v; sites = s } ∷ []) (sites_from V S v' s' ks) ∙
@@ -99,13 +99,13 @@ recursion_fault fault program faults = fault_onward fault (each_from (recursion_
 pub params_too_many : (fault : TypeFault) (program : List FunctionNode) → each_from (recursion_of program) 0 program ≡ Ok tt → Faults fault (each_from params_fault 0 program) → Faults fault (within_limits program)
 params_too_many fault program first faults =
     fault_behind fault (each_from (recursion_of program) 0 program) (λ (_ : Unit {0}). two_left program) tt first
-        (fault_onward fault (each_from params_fault 0 program) (λ (_ : Unit {0}). each_from (kernel_fault program) 0 program) faults)
+    (fault_onward fault (each_from params_fault 0 program) (λ (_ : Unit {0}). each_from (kernel_fault program) 0 program) faults)
 
 pub kernel_too_large : (fault : TypeFault) (program : List FunctionNode) → each_from (recursion_of program) 0 program ≡ Ok tt → each_from params_fault 0 program ≡ Ok tt →
     Faults fault (each_from (kernel_fault program) 0 program) → Faults fault (within_limits program)
 kernel_too_large fault program first second faults =
     fault_behind fault (each_from (recursion_of program) 0 program) (λ (_ : Unit {0}). two_left program) tt first
-        (fault_behind fault (each_from params_fault 0 program) (λ (_ : Unit {0}). each_from (kernel_fault program) 0 program) tt second faults)
+    (fault_behind fault (each_from params_fault 0 program) (λ (_ : Unit {0}). each_from (kernel_fault program) 0 program) tt second faults)
 
 pub all_within : (program : List FunctionNode) → each_from (recursion_of program) 0 program ≡ Ok tt → each_from params_fault 0 program ≡ Ok tt → each_from (kernel_fault program) 0 program ≡ Ok tt → within_limits program ≡ Ok tt
 all_within program first second third =

@@ -52,7 +52,7 @@ pub param_refused : (k : ℕ) (st : Standing) (params : List Param) (p : Param) 
     with_params k st (drop k params) ≡ whole → Faults fault whole
 param_refused k st params p fault whole within is faults known =
     faults_along fault (with_params k st (p ∷ drop (k + 1) params)) whole (sym (ap (with_params k st) (item_left params k p within is)) ∙ known)
-        (fault_onward fault (with_param k p p.kind st) (λ (s : Standing). with_params (k + 1) s (drop (k + 1) params)) faults)
+    (fault_onward fault (with_param k p p.kind st) (λ (s : Standing). with_params (k + 1) s (drop (k + 1) params)) faults)
 
 pub params_done : (k : ℕ) (st : Standing) (params : List Param) (whole : Result Standing TypeFault) → length params ≤ k → with_params k st (drop k params) ≡ whole → whole ≡ Ok st
 params_done k st params whole past known = sym known ∙ ap (with_params k st) (nothing_left params k past)
@@ -71,7 +71,7 @@ pub stmt_refused : (place : Place) (st : Standing) (stmts : List Stmt) (i : ℕ)
     Faults fault (typed_stmt place st (stmt_tree s)) → typed_stmts place (map stmt_node done) st (stmt_trees (drop i stmts)) ≡ whole → Faults fault whole
 stmt_refused place st stmts i s done fault whole within is faults known =
     faults_along fault (typed_stmts place (map stmt_node done) st (stmt_trees (s ∷ drop (i + 1) stmts))) whole (sym (ap (λ l. typed_stmts place (map stmt_node done) st (stmt_trees l)) (item_left stmts i s within is)) ∙ known)
-        (fault_onward fault (typed_stmt place st (stmt_tree s)) (λ (d : StmtNode × Standing). typed_stmts place (map stmt_node done ++ d.0 ∷ []) d.1 (stmt_trees (drop (i + 1) stmts))) faults)
+    (fault_onward fault (typed_stmt place st (stmt_tree s)) (λ (d : StmtNode × Standing). typed_stmts place (map stmt_node done ++ d.0 ∷ []) d.1 (stmt_trees (drop (i + 1) stmts))) faults)
 
 pub stmts_done : (place : Place) (st : Standing) (stmts : List Stmt) (i : ℕ) (done : List TypedStmt) (whole : Result (List StmtNode × Standing) TypeFault) → length stmts ≤ i →
     typed_stmts place (map stmt_node done) st (stmt_trees (drop i stmts)) ≡ whole → whole ≡ Ok (map stmt_node done, st)
@@ -101,7 +101,7 @@ pub body_refused : (fs : List FunctionTree) (functions : List Function) (i : ℕ
     Faults fault (typed_function fs (function_tree f)) → typed_functions fs before (drop i (trees_of functions)) ≡ whole → Faults fault whole
 body_refused fs functions i f fault before whole within is faults known =
     faults_along fault (typed_functions fs before (function_tree f ∷ drop (i + 1) (trees_of functions))) whole (sym (ap (typed_functions fs before) (next_left function_tree functions i f within is)) ∙ known)
-        (fault_onward fault (typed_function fs (function_tree f)) (λ (node : FunctionNode). typed_functions fs (before ++ node ∷ []) (drop (i + 1) (trees_of functions))) faults)
+    (fault_onward fault (typed_function fs (function_tree f)) (λ (node : FunctionNode). typed_functions fs (before ++ node ∷ []) (drop (i + 1) (trees_of functions))) faults)
 
 pub bodies_done : (fs : List FunctionTree) (functions : List Function) (i : ℕ) (before : List FunctionNode) (whole : Result (List FunctionNode) TypeFault) → length functions ≤ i →
     typed_functions fs before (drop i (trees_of functions)) ≡ whole → whole ≡ Ok before

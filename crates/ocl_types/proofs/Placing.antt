@@ -36,8 +36,8 @@ same_cut a b is = omega arith
 pub placed_same : (program : List FunctionNode) (totals : List Totals) → AreTotals program (length program) totals → (f : FunctionNode) → placed_by totals f ≡ placed program f
 placed_same program totals are f = ap (λ (calls : List CallSite). record f { calls = calls })
     (sites_alike (variables_of totals) (measured own_variables program) (sites_of totals) (measured own_sites program)
-        (λ k. same_cut (variables_of totals k) (measured own_variables program k) (are.variables k)) (λ k. same_cut (sites_of totals k) (measured own_sites program k) (are.sites k))
-        f.variables f.variables f.sites f.sites refl refl (callees f))
+    (λ k. same_cut (variables_of totals k) (measured own_variables program k) (are.variables k)) (λ k. same_cut (sites_of totals k) (measured own_sites program k) (are.sites k))
+    f.variables f.variables f.sites f.sites refl refl (callees f))
 
 map_same : {A B : Type 0} (g h : A → B) → ((x : A) → g x ≡ h x) → (xs : List A) → map g xs ≡ map h xs
 map_same {A = A} {B = B} g h same xs = ap (λ (f : A → B). map f xs) (fun_ext same)

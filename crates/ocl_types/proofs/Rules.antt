@@ -64,8 +64,8 @@ pub do_test_fault : (place : Place) (st after : Standing) (b : StmtNode) (tree b
     typed_stmt (in_turn place) st body ≡ Ok (b, after) → Faults fault (expr_in place after test) → Faults fault (typed_stmt place st tree)
 do_test_fault place st after b tree body test fault is typed faults =
     let whole : Faults fault (typed_stmt place st (DoTree body test)) =
-        fault_behind fault (typed_stmt (in_turn place) st body) (λ (b : StmtNode × Standing). expr_in place b.1 test >>= λ (t : Typed). Ok (DoNode b.0 t.expr, with_calls t.calls b.1)) (b, after) typed
-            (fault_onward fault (expr_in place after test) (λ (t : Typed). Ok (DoNode b t.expr, with_calls t.calls after)) faults) in
+    fault_behind fault (typed_stmt (in_turn place) st body) (λ (b : StmtNode × Standing). expr_in place b.1 test >>= λ (t : Typed). Ok (DoNode b.0 t.expr, with_calls t.calls b.1)) (b, after) typed
+    (fault_onward fault (expr_in place after test) (λ (t : Typed). Ok (DoNode b t.expr, with_calls t.calls after)) faults) in
     subst (λ (t : StmtTree). Faults fault (typed_stmt place st t)) (sym is) whole
 
 pub for_is : (stmt : Stmt) (first : Vec Stmt Global) (test : Option Expr) (step : Vec Stmt Global) (body : Box Stmt Global) (firsts steps : List Stmt) (inside : Stmt) → stmt ≡ For first test step body →
@@ -93,18 +93,18 @@ pub for_step_fault : (place : Place) (st : Standing) (tree : StmtTree) (first : 
     typed_stmts (inner place) [] (opened st) first ≡ Ok f → option_in place f.1 test ≡ Ok t → Faults fault (typed_stmts (inner place) [] (with_calls t.calls f.1) step) → Faults fault (typed_stmt place st tree)
 for_step_fault place st tree first test step body f t fault is one two faults =
     subst (λ (x : StmtTree). Faults fault (typed_stmt place st x)) (sym is)
-        (fault_behind fault (typed_stmts (inner place) [] (opened st) first) (λ (f : Listed). with_test place test step body f) f one
-            (fault_behind fault (option_in place f.1 test) (λ (t : MaybeTyped). with_step place step body f t) t two
-                (fault_onward fault (typed_stmts (inner place) [] (with_calls t.calls f.1) step) (λ (s : Listed). with_turn place body f t s) faults)))
+    (fault_behind fault (typed_stmts (inner place) [] (opened st) first) (λ (f : Listed). with_test place test step body f) f one
+    (fault_behind fault (option_in place f.1 test) (λ (t : MaybeTyped). with_step place step body f t) t two
+    (fault_onward fault (typed_stmts (inner place) [] (with_calls t.calls f.1) step) (λ (s : Listed). with_turn place body f t s) faults)))
 
 pub for_body_fault : (place : Place) (st : Standing) (tree : StmtTree) (first : StmtTrees) (test : Option ExprTree) (step : StmtTrees) (body : StmtTree) (f s : Listed) (t : MaybeTyped) (fault : TypeFault) → tree ≡ ForTree first test step body →
     typed_stmts (inner place) [] (opened st) first ≡ Ok f → option_in place f.1 test ≡ Ok t → typed_stmts (inner place) [] (with_calls t.calls f.1) step ≡ Ok s → Faults fault (typed_stmt (in_turn place) s.1 body) → Faults fault (typed_stmt place st tree)
 for_body_fault place st tree first test step body f s t fault is one two three faults =
     subst (λ (x : StmtTree). Faults fault (typed_stmt place st x)) (sym is)
-        (fault_behind fault (typed_stmts (inner place) [] (opened st) first) (λ (f : Listed). with_test place test step body f) f one
-            (fault_behind fault (option_in place f.1 test) (λ (t : MaybeTyped). with_step place step body f t) t two
-                (fault_behind fault (typed_stmts (inner place) [] (with_calls t.calls f.1) step) (λ (s : Listed). with_turn place body f t s) s three
-                    (fault_onward fault (typed_stmt (in_turn place) s.1 body) (λ (b : StmtNode × Standing). Ok (ForNode (stmt_nodes f.0) t.expr (stmt_nodes s.0) b.0, closed b.1)) faults))))
+    (fault_behind fault (typed_stmts (inner place) [] (opened st) first) (λ (f : Listed). with_test place test step body f) f one
+    (fault_behind fault (option_in place f.1 test) (λ (t : MaybeTyped). with_step place step body f t) t two
+    (fault_behind fault (typed_stmts (inner place) [] (with_calls t.calls f.1) step) (λ (s : Listed). with_turn place body f t s) s three
+    (fault_onward fault (typed_stmt (in_turn place) s.1 body) (λ (b : StmtNode × Standing). Ok (ForNode (stmt_nodes f.0) t.expr (stmt_nodes s.0) b.0, closed b.1)) faults))))
 
 pub for_typed : (place : Place) (st : Standing) (tree : StmtTree) (first : StmtTrees) (test : Option ExprTree) (step : StmtTrees) (body : StmtTree) (f s : Listed) (t : MaybeTyped) (b : StmtNode × Standing) → tree ≡ ForTree first test step body →
     typed_stmts (inner place) [] (opened st) first ≡ Ok f → option_in place f.1 test ≡ Ok t → typed_stmts (inner place) [] (with_calls t.calls f.1) step ≡ Ok s → typed_stmt (in_turn place) s.1 body ≡ Ok b →

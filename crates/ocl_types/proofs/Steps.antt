@@ -84,8 +84,8 @@ pub call_fault : (fs : List FunctionTree) (ss : List Scope) (calls : List ℕ) (
 call_fault fs ss calls expr name args slice text meaning callee fault is read means found seen faults =
     let onward = fault_onward fault (typed_args fs ss callee (no_args calls) (arg_trees slice)) (λ (sofar : ArgsSofar). value_call name.pos callee sofar) faults in
     let whole : Faults fault (typed fs ss calls (CallTree name (arg_trees slice))) =
-        fault_behind fault (callee_of fs name.pos (meaning_of fs ss name.text)) (λ (k : Callee). typed_args fs ss k (no_args calls) (arg_trees slice) >>= λ (sofar : ArgsSofar). value_call name.pos k sofar) callee
-            (callee_is fs ss name text meaning callee read means found) onward in
+    fault_behind fault (callee_of fs name.pos (meaning_of fs ss name.text)) (λ (k : Callee). typed_args fs ss k (no_args calls) (arg_trees slice) >>= λ (sofar : ArgsSofar). value_call name.pos k sofar) callee
+    (callee_is fs ss name text meaning callee read means found) onward in
     subst (λ judged. Faults fault judged) (sym (call_is fs ss calls expr name args slice is seen)) whole
 
 -- a call whose arguments are typed
@@ -95,6 +95,6 @@ pub call_typed : (r : Result TypedPart TypeFault) (after : List ℕ) (fs : List 
 call_typed r after fs ss calls expr name args slice text meaning callee sofar is read means found seen all made =
     let behind = types_behind r after (typed_args fs ss callee (no_args calls) (arg_trees slice)) (λ (s : ArgsSofar). value_call name.pos callee s) sofar all made in
     let whole : TypesTo r after (typed fs ss calls (CallTree name (arg_trees slice))) =
-        types_behind r after (callee_of fs name.pos (meaning_of fs ss name.text)) (λ (k : Callee). typed_args fs ss k (no_args calls) (arg_trees slice) >>= λ (s : ArgsSofar). value_call name.pos k s) callee
-            (callee_is fs ss name text meaning callee read means found) behind in
+    types_behind r after (callee_of fs name.pos (meaning_of fs ss name.text)) (λ (k : Callee). typed_args fs ss k (no_args calls) (arg_trees slice) >>= λ (s : ArgsSofar). value_call name.pos k s) callee
+    (callee_is fs ss name text meaning callee read means found) behind in
     subst (λ judged. TypesTo r after judged) (sym (call_is fs ss calls expr name args slice is seen)) whole

@@ -10,7 +10,7 @@ ghost use Rattle.ocl_types.specs.declared.faults.TypeFault.TheVariants as fault;
 ghost use Rattle.ocl_types.specs.declared.names.Given.TheVariants as kinds;
 
 use crate::faults::TypeFault;
-use crate::functions::{meaning_of, Functions};
+use crate::functions::{Functions, meaning_of};
 use crate::names::{Binding, FoundArray, Given, Meaning};
 use crate::parts::TypedPart;
 use crate::scopes::Scopes;

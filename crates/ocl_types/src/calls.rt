@@ -10,7 +10,7 @@ use crate::names::Given;
 use crate::parts::TypedPart;
 use crate::uses::Callee;
 use ocl_ast::{Gives, Param};
-use ocl_program::{nodes, Builtin, TypedExpr};
+use ocl_program::{Builtin, TypedExpr, nodes};
 use vx_base::Pos;
 
 /// A typed call and what it gives.
@@ -123,11 +123,7 @@ pub fn whole_call(
 }
 
 /// A call of the right arguments.
-fn made_call(
-    callee: Callee<'_>,
-    calls: &mut Vec<u32>,
-    args: Args,
-) -> Result<CallPart, TypeFault>
+fn made_call(callee: Callee<'_>, calls: &mut Vec<u32>, args: Args) -> Result<CallPart, TypeFault>
     ensures { CallsTo result calls.new.items (Ok (call_made (callee_in callee.entry) (args_sofar args calls.old.items))) }
 {
     match callee {

@@ -5,15 +5,15 @@ ghost use Rattle.ocl_types.specs.Answers.{MaybeTo, callee_in, TypesTo, TakesTo};
 ghost use Rattle.ocl_types.specs.Exprs.{typed, typed_args as typed_args_of, typed_option as typed_option_of};
 ghost use Rattle.ocl_types.specs.Tables.{NumbersOf, trees_of};
 
-use crate::args::{bare_array, first_pos, pointer_wanted, Args};
+use crate::args::{Args, bare_array, first_pos, pointer_wanted};
 use crate::calls::value_call;
 use crate::faults::TypeFault;
-use crate::functions::{meaning_of, Functions};
+use crate::functions::{Functions, meaning_of};
 use crate::kinds::word_type;
 use crate::parts;
 use crate::parts::TypedPart;
 use crate::scopes::Scopes;
-use crate::uses::{as_array, as_callee, as_variable, Callee};
+use crate::uses::{Callee, as_array, as_callee, as_variable};
 use ocl_ast::Expr;
 use ocl_program::TypedExpr;
 use std::alloc::Global;
@@ -34,7 +34,9 @@ pub fn typed_expr(
 {
     match expr {
         Expr::Number {
-            value, unsigned, ..
+            value,
+            unsigned,
+            ..
         } => Ok(TypedPart {
             expr: TypedExpr::Number {
                 value: *value,
@@ -51,7 +53,10 @@ pub fn typed_expr(
             parts::unary(alloc, *op, part)
         }
         Expr::Binary {
-            op, left, right, ..
+            op,
+            left,
+            right,
+            ..
         } => {
             let left = typed_expr(alloc, functions, scopes, calls, left)?;
             let right = typed_expr(alloc, functions, scopes, calls, right)?;

@@ -1,21 +1,18 @@
-//! The typing of a file.
+//! The functions of a file put together of their typed blocks.
 ghost use Rattle.std.specs.Prelude.{◌≡◌, ◌<◌, ◌^◌, IfOk, IfErr, length, map};
 ghost use Rattle.ocl_ast.specs.Shapes.{function_tree};
 ghost use Rattle.ocl_program.specs.Measures.{callees};
 ghost use Rattle.ocl_program.specs.Shapes.{function_node};
 ghost use Rattle.ocl_measures.specs.Totals.{sites_of, variables_of};
-ghost use Rattle.ocl_types.specs.Answers.{BodiesTo, with_bodies, with_body};
-ghost use Rattle.ocl_types.specs.Results.{ProgramTo, TotalsTo};
-ghost use Rattle.ocl_types.specs.Functions.{bare_call as bare_call_of, bodies_of, placed_by, program_of, sites_from, within_limits};
-ghost use Rattle.ocl_types.specs.Tables.{trees_of};
+ghost use Rattle.ocl_types.specs.Answers.{with_bodies, with_body};
+ghost use Rattle.ocl_types.specs.Results.{TotalsTo};
+ghost use Rattle.ocl_types.specs.Functions.{bare_call as bare_call_of, placed_by, sites_from, within_limits};
 ghost use Rattle.ocl_types.specs.declared.faults.TypeFault.TheVariants as fault;
 
-use crate::bodies::{TypedBody, typed_bodies};
+use crate::bodies::TypedBody;
 use crate::faults::TypeFault;
-use crate::functions::Functions;
 use crate::limits::{check_kernels, check_params, check_recursion};
-use crate::programs::Program;
-use ocl_ast::{Function, Unit};
+use ocl_ast::Function;
 use ocl_measures::rounds::{all_totals, totals_at};
 use ocl_measures::sizes::Totals;
 use ocl_program::{CallSite, TypedFunction};
@@ -62,7 +59,7 @@ fn resolved(alloc: Global, function: Function, body: TypedBody) -> Result<TypedF
 
 /// The functions whose blocks are typed.
 #[tactic(auto, using(crate::proofs::Filing::with_bodies_is))]
-fn all_resolved(
+pub fn all_resolved(
     alloc: Global,
     functions: Vec<Function>,
     bodies: Vec<TypedBody>,
@@ -114,7 +111,7 @@ fn placed_calls(
 }
 
 /// Places the calls of all functions.
-fn all_placed(
+pub fn all_placed(
     alloc: Global,
     functions: Vec<TypedFunction>,
     totals: &[Totals],
@@ -135,19 +132,9 @@ fn all_placed(
     Ok(done)
 }
 
-/// The typed blocks of the functions of a file, whose names differ.
-#[tactic(auto, using(crate::proofs::Filing::bodies_behind, crate::proofs::Filing::bodies_fault))]
-fn file_bodies(alloc: Global, functions: &[Function]) -> Result<Vec<TypedBody>, TypeFault>
-    requires { length functions.now < 2 ^ 32 }
-    ensures { BodiesTo result (trees_of functions.now) (bodies_of (trees_of functions.now)) }
-{
-    let functions = Functions::new(alloc, functions)?;
-    typed_bodies(alloc, &functions)
-}
-
 /// The totals of functions that are within the limits.
 #[tactic(auto, using(crate::proofs::Filing::recursion_fault, crate::proofs::Filing::params_too_many, crate::proofs::Filing::kernel_too_large, crate::proofs::Filing::all_within))]
-fn limited_totals(alloc: Global, functions: &[TypedFunction]) -> Result<Vec<Totals>, TypeFault>
+pub fn limited_totals(alloc: Global, functions: &[TypedFunction]) -> Result<Vec<Totals>, TypeFault>
     requires { length functions.now < 2 ^ 32 }
     ensures { TotalsTo result (map function_node functions.now) (within_limits (map function_node functions.now)) }
 {
@@ -157,20 +144,3 @@ fn limited_totals(alloc: Global, functions: &[TypedFunction]) -> Result<Vec<Tota
     check_kernels(functions, totals.as_slice())?;
     Ok(totals)
 }
-
-/// Types a file: Ok with the program exactly where the file is typed and within the limits, and otherwise its first
-/// fault. A file has fewer than 2^32 functions.
-#[tactic(auto, using(crate::proofs::Filing::file_fault, crate::proofs::Filing::limit_fault, crate::proofs::Filing::file_typed, crate::proofs::Placing::all_placed_same, crate::proofs::Placing::totals_kept))]
-pub fn check(alloc: Global, unit: Unit) -> Result<Program, TypeFault>
-    requires { length unit.functions < 2 ^ 32 }
-    ensures { ProgramTo result (program_of (map function_tree unit.functions)) }
-{
-    let bodies = file_bodies(alloc, unit.functions.as_slice())?;
-    let functions = all_resolved(alloc, unit.functions.items, bodies)?;
-    let totals = limited_totals(alloc, functions.as_slice())?;
-    let functions = all_placed(alloc, functions, totals.as_slice())?;
-    Ok(Program { functions, totals })
-}
-
-#[cfg(test)]
-mod tests;

@@ -20,10 +20,9 @@ pub mod names;
 pub mod parts;
 pub mod programs;
 pub mod scopes;
+pub mod simple;
 pub mod standing;
-pub mod stmts;
 pub mod uses;
 
 pub use faults::{Counted, TypeFault};
-pub use file::check;
 pub use programs::Program;

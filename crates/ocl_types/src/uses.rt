@@ -4,10 +4,10 @@ ghost use Rattle.ocl_types.specs.Answers.{callee_in, typed_part};
 ghost use Rattle.ocl_types.specs.Exprs.{array_of, callee_of, helper_of, variable_of};
 ghost use Rattle.ocl_types.specs.Tables.{trees_of};
 
-use crate::parts::TypedPart;
 use crate::faults::TypeFault;
 use crate::functions::Functions;
 use crate::names::{Binding, FoundArray, Meaning};
+use crate::parts::TypedPart;
 use ocl_ast::{Gives, Param};
 use ocl_program::{Builtin, TypedExpr};
 use vx_base::Pos;
@@ -88,11 +88,7 @@ pub fn as_callee<'a>(
 }
 
 /// A function that is called.
-fn as_helper<'a>(
-    functions: &Functions<'a>,
-    pos: Pos,
-    number: u32,
-) -> Result<Callee<'a>, TypeFault>
+fn as_helper<'a>(functions: &Functions<'a>, pos: Pos, number: u32) -> Result<Callee<'a>, TypeFault>
     ensures { MatchResult result (λ callee. helper_of pos number (slice_get (trees_of functions.now.functions.now) number) ≡ Ok (callee_in callee)) (λ fault. helper_of pos number (slice_get (trees_of functions.now.functions.now) number) ≡ Err fault) }
 {
     let Some(function) = functions.at(number) else {

@@ -17,9 +17,9 @@ returns-clause-ok c =
     let first = c.zip-function-items.ensures.first in
     let second = c.zip-function-items.ensures.second in
     let functions = YieldsList-from_vec {s = zip_first c.into_iter-function-iterator.result} c.args.functions.items
-        (ap (λ s. into_iter_items (zip_first s)) given ∙ ap into_iter_items first ∙ c.into_iter.ensures.rest) (ap (λ s. into_iter_len (zip_first s)) given ∙ ap into_iter_len first ∙ c.into_iter.ensures.len ∙ c.args.functions.ok.0) in
+    (ap (λ s. into_iter_items (zip_first s)) given ∙ ap into_iter_items first ∙ c.into_iter.ensures.rest) (ap (λ s. into_iter_len (zip_first s)) given ∙ ap into_iter_len first ∙ c.into_iter.ensures.len ∙ c.args.functions.ok.0) in
     let bodies = YieldsList-from_vec {s = zip_second c.into_iter-function-iterator.result} c.args.bodies.items
-        (ap (λ s. into_iter_items (zip_second s)) given ∙ second.0) (ap (λ s. into_iter_len (zip_second s)) given ∙ second.1 ∙ c.args.bodies.ok.0) in
+    (ap (λ s. into_iter_items (zip_second s)) given ∙ second.0) (ap (λ s. into_iter_len (zip_second s)) given ∙ second.1 ∙ c.args.bodies.ok.0) in
     let end = YieldsList-end (YieldsList-from_zip functions bodies) c.loop-function.yielded c.loop-function.function-iterator c.loop-function.yielded_by c.next.result c.next.new.self c.in-None.is c.next.ensures.steps in
     c.loop-function.invariant ∙ ap (map (λ (p : Function × TypedBody). with_body (function_tree p.0) p.1)) (sym (pairs_kept c.loop-function.yielded) ∙ end.0) ∙
     with_bodies_is c.args.functions.items c.args.bodies.items

@@ -17,5 +17,5 @@ loop-call-preserved c =
     let within : k < length xs = omega (arith, ap length seen) in
     let known = ap (λ l. c.loop-call.placed.items ++ sites_from V S v s (map (λ (q : CallSite). q.callee) (drop k l))) seen ∙ c.loop-call.invariant.2 in
     let made = placed_more V S v s v' s' xs k here c.loop-call.placed.items c.push.new.self.items _ within (read_any xs k none within) c.loop-call.invariant.0 c.loop-call.invariant.1
-        (c.saturating_add-variables.ensures ∙ ap (λ m. cut (v + m)) c.totals_at-inner.ensures.variables) (c.saturating_add-sites.ensures ∙ ap (λ m. cut (s + m)) c.totals_at-inner.ensures.sites) c.in-Ok.ensures.items known in
+    (c.saturating_add-variables.ensures ∙ ap (λ m. cut (v + m)) c.totals_at-inner.ensures.variables) (c.saturating_add-sites.ensures ∙ ap (λ m. cut (s + m)) c.totals_at-inner.ensures.sites) c.in-Ok.ensures.items known in
     (omega arith, omega arith, sym (ap (λ l. c.push.new.self.items ++ sites_from V S v' s' (map (λ (q : CallSite). q.callee) (drop (k + 1) l))) seen) ∙ made)

@@ -1,12 +1,12 @@
-//! The typing of statements.
-ghost use Rattle.std.specs.Prelude.{◌≡◌, [], option_map};
-ghost use Rattle.ocl_ast.specs.Shapes.{arg_trees, stmt_tree, stmt_trees, target_tree, tree_of};
-ghost use Rattle.ocl_ast.specs.Trees.{AssignTree, CallStmtTree, DeclareTree, ForTree, LocalArrayTree, ReturnTree};
-ghost use Rattle.ocl_types.specs.Answers.{MaybeTo, StmtTo, StmtsTo, TypesTo, placed_in, standing_of};
+//! The typing of statements that have no statements inside them.
+ghost use Rattle.std.specs.Prelude.{◌≡◌, option_map};
+ghost use Rattle.ocl_ast.specs.Shapes.{arg_trees, target_tree, tree_of};
+ghost use Rattle.ocl_ast.specs.Trees.{AssignTree, CallStmtTree, DeclareTree, LocalArrayTree, ReturnTree};
+ghost use Rattle.ocl_types.specs.Answers.{MaybeTo, StmtTo, TypesTo, placed_in, standing_of};
 ghost use Rattle.ocl_program.specs.Nodes.{BarrierNode};
 ghost use Rattle.ocl_program.specs.Shapes.{stmt_node};
 ghost use Rattle.ocl_types.specs.Exprs.{typed, typed_option as typed_option_of};
-ghost use Rattle.ocl_types.specs.Stmts.{Standing as StandingIn, jump_in as jump_in_of, one_more, typed_stmt as typed_stmt_of, typed_stmts as typed_stmts_of, with_calls};
+ghost use Rattle.ocl_types.specs.Stmts.{Standing as StandingIn, jump_in as jump_in_of, one_more, typed_stmt as typed_stmt_of, with_calls};
 ghost use Rattle.ocl_types.specs.Tables.{NumbersOf, trees_of};
 
 use crate::calls::whole_call;
@@ -16,16 +16,15 @@ use crate::exprs::{MaybePart, typed_args, typed_expr, typed_option};
 use crate::faults::TypeFault;
 use crate::functions::{Functions, meaning_of};
 use crate::parts::TypedPart;
-use crate::scopes::NameTable;
 use crate::standing::{Place, Standing, next_number};
 use crate::uses::as_callee;
-use ocl_ast::{AssignOp, Expr, Gives, Ident, Stmt, Target};
-use ocl_program::{LocalArray, TypedStmt, nodes};
+use ocl_ast::{AssignOp, Expr, Gives, Ident, Target};
+use ocl_program::{LocalArray, TypedStmt};
 use std::alloc::Global;
 use vx_base::{Elem, Pos};
 
 /// Types an expression of a statement.
-fn expr_in(
+pub fn expr_in(
     alloc: Global,
     functions: &Functions<'_>,
     st: &mut Standing<'_>,
@@ -39,7 +38,7 @@ fn expr_in(
 }
 
 /// Types an expression of a statement that may be left out.
-fn option_in(
+pub fn option_in(
     alloc: Global,
     functions: &Functions<'_>,
     st: &mut Standing<'_>,
@@ -54,7 +53,7 @@ fn option_in(
 
 /// Types a declaration of a variable.
 #[tactic(auto, using(crate::proofs::Steps::fault_onward, crate::proofs::Steps::fault_behind, crate::proofs::Rules::stmt_behind))]
-fn declare<'a>(
+pub fn declare<'a>(
     alloc: Global,
     functions: &Functions<'_>,
     place: Place,
@@ -79,7 +78,7 @@ fn declare<'a>(
 
 /// Types a declaration of a `__local` array.
 #[tactic(auto, using(crate::proofs::Steps::fault_onward, crate::proofs::Steps::fault_behind, crate::proofs::Rules::stmt_behind))]
-fn declare_array<'a>(
+pub fn declare_array<'a>(
     alloc: Global,
     functions: &Functions<'_>,
     place: Place,
@@ -106,7 +105,7 @@ fn declare_array<'a>(
 
 /// Types an assignment.
 #[tactic(auto, using(crate::proofs::Steps::fault_onward, crate::proofs::Steps::fault_behind, crate::proofs::Rules::stmt_behind))]
-fn assign(
+pub fn assign(
     alloc: Global,
     functions: &Functions<'_>,
     place: Place,
@@ -126,7 +125,7 @@ fn assign(
 
 /// Types a call whose value is not used.
 #[tactic(auto, using(crate::proofs::Steps::fault_onward, crate::proofs::Steps::fault_behind, crate::proofs::Rules::stmt_behind))]
-fn call(
+pub fn call(
     alloc: Global,
     functions: &Functions<'_>,
     place: Place,
@@ -145,7 +144,7 @@ fn call(
 }
 
 /// Numbers a barrier.
-fn barrier(st: &mut Standing<'_>) -> TypedStmt
+pub fn barrier(st: &mut Standing<'_>) -> TypedStmt
     ensures node { stmt_node result ≡ BarrierNode st.old.sites }
     ensures after { standing_of st.new ≡ record (standing_of st.old) { sites = one_more st.old.sites } }
 {
@@ -156,7 +155,7 @@ fn barrier(st: &mut Standing<'_>) -> TypedStmt
 
 /// Types `return`: a value stands exactly where the function gives one.
 #[tactic(auto, using(crate::proofs::Steps::fault_onward, crate::proofs::Steps::fault_behind, crate::proofs::Rules::stmt_behind))]
-fn leave(
+pub fn leave(
     alloc: Global,
     functions: &Functions<'_>,
     place: Place,
@@ -175,155 +174,8 @@ fn leave(
     Ok(TypedStmt::Return(value.expr))
 }
 
-/// Types a statement. After a fault what the function has so far is not to be used.
-#[cycle(stmts)]
-#[tactic(auto, using(crate::proofs::Steps::fault_onward, crate::proofs::Steps::fault_behind, crate::proofs::Rules::stmt_behind, crate::proofs::Rules::block_seen, crate::proofs::Rules::for_seen, crate::proofs::Rules::nodes_seen))]
-pub fn typed_stmt<'a>(
-    alloc: Global,
-    functions: &Functions<'_>,
-    place: Place,
-    st: &mut Standing<'a>,
-    stmt: &'a Stmt,
-) -> Result<TypedStmt, TypeFault>
-    requires { NumbersOf functions.now.numbers.entries (trees_of functions.now.functions.now) }
-    ensures { StmtTo result (standing_of st.new) (typed_stmt_of (placed_in (trees_of functions.now.functions.now) place) (standing_of st.old) (stmt_tree stmt.now)) }
-{
-    let inside = Place {
-        outermost: false,
-        ..place
-    };
-    let turn = Place {
-        in_loop: true,
-        outermost: false,
-        ..place
-    };
-    match stmt {
-        Stmt::Declare {
-            elem,
-            constant,
-            name,
-            value,
-        } => declare(alloc, functions, place, st, *elem, *constant, name, value),
-        Stmt::LocalArray { elem, name, count } => {
-            declare_array(alloc, functions, place, st, *elem, name, count)
-        }
-        Stmt::Assign {
-            target,
-            op,
-            value,
-            pos,
-        } => assign(alloc, functions, place, st, target, *op, value, *pos),
-        Stmt::Call { name, args } => call(alloc, functions, place, st, name, args),
-        Stmt::Barrier { .. } => Ok(barrier(st)),
-        Stmt::If {
-            test,
-            yes,
-            no: None,
-        } => {
-            let test = expr_in(alloc, functions, st, test)?;
-            let one = typed_stmt(alloc, functions, inside, st, yes)?;
-            Ok(nodes::if_stmt(alloc, test.expr, one, None)?)
-        }
-        Stmt::If {
-            test,
-            yes,
-            no: Some(no),
-        } => {
-            let test = expr_in(alloc, functions, st, test)?;
-            let one = typed_stmt(alloc, functions, inside, st, yes)?;
-            let other = typed_stmt(alloc, functions, inside, st, no)?;
-            Ok(nodes::if_stmt(alloc, test.expr, one, Some(other))?)
-        }
-        Stmt::While { test, body } => {
-            let test = expr_in(alloc, functions, st, test)?;
-            let body = typed_stmt(alloc, functions, turn, st, body)?;
-            Ok(nodes::while_stmt(alloc, test.expr, body)?)
-        }
-        Stmt::Do { body, test } => {
-            let body = typed_stmt(alloc, functions, turn, st, body)?;
-            let test = expr_in(alloc, functions, st, test)?;
-            Ok(nodes::do_stmt(alloc, body, test.expr)?)
-        }
-        Stmt::For {
-            first,
-            test,
-            step,
-            body,
-        } => typed_for(alloc, functions, place, st, first, test, step, body),
-        Stmt::Break(pos) => jump(place, *pos, TypedStmt::Break),
-        Stmt::Continue(pos) => jump(place, *pos, TypedStmt::Continue),
-        Stmt::Return { value, pos } => leave(alloc, functions, place, st, value, *pos),
-        Stmt::Block(items) => {
-            st.scopes.open(NameTable::new(alloc))?;
-            let items = typed_stmts(alloc, functions, inside, st, items)?;
-            st.scopes.close();
-            Ok(nodes::block(items))
-        }
-        Stmt::Empty => Ok(TypedStmt::Empty),
-    }
-}
-
-/// Types `for`: its head and its body share a scope.
-#[cycle(stmts)]
-#[tactic(auto, using(crate::proofs::Steps::fault_onward, crate::proofs::Steps::fault_behind, crate::proofs::Rules::stmt_behind, crate::proofs::Rules::nodes_seen))]
-pub fn typed_for<'a>(
-    alloc: Global,
-    functions: &Functions<'_>,
-    place: Place,
-    st: &mut Standing<'a>,
-    first: &'a [Stmt],
-    test: &Option<Expr>,
-    step: &'a [Stmt],
-    body: &'a Stmt,
-) -> Result<TypedStmt, TypeFault>
-    requires { NumbersOf functions.now.numbers.entries (trees_of functions.now.functions.now) }
-    ensures { StmtTo result (standing_of st.new) (typed_stmt_of (placed_in (trees_of functions.now.functions.now) place) (standing_of st.old) (ForTree (stmt_trees first.now) (option_map tree_of test.now) (stmt_trees step.now) (stmt_tree body.now))) }
-{
-    let inside = Place {
-        outermost: false,
-        ..place
-    };
-    let turn = Place {
-        in_loop: true,
-        outermost: false,
-        ..place
-    };
-    st.scopes.open(NameTable::new(alloc))?;
-    let first = typed_stmts(alloc, functions, inside, st, first)?;
-    let test = option_in(alloc, functions, st, test)?;
-    let step = typed_stmts(alloc, functions, inside, st, step)?;
-    let body = typed_stmt(alloc, functions, turn, st, body)?;
-    st.scopes.close();
-    Ok(nodes::for_stmt(alloc, first, test.expr, step, body)?)
-}
-
-/// Types statements in order.
-#[cycle(stmts)]
-pub fn typed_stmts<'a>(
-    alloc: Global,
-    functions: &Functions<'_>,
-    place: Place,
-    st: &mut Standing<'a>,
-    stmts: &'a [Stmt],
-) -> Result<Vec<TypedStmt>, TypeFault>
-    requires { NumbersOf functions.now.numbers.entries (trees_of functions.now.functions.now) }
-    ensures { StmtsTo result (standing_of st.new) (typed_stmts_of (placed_in (trees_of functions.now.functions.now) place) [] (standing_of st.old) (stmt_trees stmts.now)) }
-{
-    let mut done = Vec::new(alloc);
-    for stmt in stmts {
-        match typed_stmt(alloc, functions, place, st, stmt) {
-            Ok(stmt) => match done.push(stmt) {
-                Ok(()) => {}
-                Err(_full) => return Err(TypeFault::Memory),
-            },
-            Err(fault) => return Err(fault),
-        }
-    }
-    Ok(done)
-}
-
 /// `break` or `continue`: a loop is round it.
-fn jump(place: Place, pos: Pos, jump: TypedStmt) -> Result<TypedStmt, TypeFault>
+pub fn jump(place: Place, pos: Pos, jump: TypedStmt) -> Result<TypedStmt, TypeFault>
     ensures { (st : StandingIn) → StmtTo result st (jump_in_of place.in_loop pos (stmt_node jump) st) }
 {
     if place.in_loop {
