@@ -1,5 +1,5 @@
 -- How large a function is once the body of a helper stands at each of its calls.
-use Rattle.std.specs.Prelude.{ℕ, zero, suc, ◌+◌, ◌-◌, ◌^◌, max, min, Option, None, Some, List, [], ◌∷◌, map, sum, length, slice_get, slice_index}
+use Rattle.std.specs.Prelude.{ℕ, zero, suc, ◌+◌, ◌-◌, ◌^◌, max, min, Option, None, Some, List, [], ◌∷◌, map, sum, length, slice_get}
 use Rattle.ocl_program.specs.declared.functions.CallSite.{CallSite}
 use Rattle.ocl_program.specs.declared.functions.Measures.{Measures}
 use Rattle.ocl_program.specs.Nodes.{ExprNode, NumberNode, VariableNode, UnaryNode, BinaryNode, BothNode, EitherNode, ChooseNode, CastNode, LoadNode, CallNode, BuiltinNode, ParenNode, ArgNodes, NoArgs, ValueArg, ArrayArg, StmtNode, DeclareNode, LocalArrayNode, SetVariableNode, SetElementNode, CallStmtNode, BarrierNode, IfNode, IfElseNode, WhileNode, DoNode, ForNode, BreakNode, ContinueNode, ReturnNode, BlockNode, EmptyNode, StmtNodes, NoStmts, AndStmt, FunctionNode}
@@ -161,7 +161,7 @@ callees f = map (λ (c : CallSite). c.callee) f.calls
 
 -- what stands at call k, by the number of the callee
 abbrev pub at_call : FunctionNode → (ℕ → ℕ) → ℕ → ℕ
-at_call f inner k = inner (slice_index (callees f) k)
+at_call f inner k = where_some inner (slice_get (callees f) k)
 
 -- the greatest number, 0 where there is none
 abbrev pub greatest : List ℕ → ℕ

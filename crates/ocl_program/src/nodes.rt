@@ -188,3 +188,6 @@ pub fn block(items: Vec<TypedStmt>) -> TypedStmt
 {
     TypedStmt::Block(items)
 }
+
+#[cfg(test)]
+mod tests;

@@ -1,4 +1,13 @@
+pub mod Lists
+pub mod Loops
+pub mod NameLaws
+pub mod Rules
 pub mod ScopeLaws
+pub mod Steps
+pub mod Strangers
 pub mod TableLaws
 pub mod WorkedFaults
 pub mod WorkedTypes
+pub mod Filing
+pub mod Passing
+pub mod Placing

@@ -4,13 +4,19 @@ use Rattle.std.proofs.lemmas.List.{reverse-append}
 use Rattle.std.proofs.Math.Seq.{take-suc}
 use Rattle.ocl_types.specs.declared.names.Binding.{Binding}
 use Rattle.ocl_types.specs.Names.{Scope, entry_named, binding_named, or_outer}
-use Rattle.ocl_types.specs.Stmts.{outer_scopes}
+use Rattle.ocl_types.specs.Stmts.{innermost, outer_scopes}
 
 pub scope_opens : (old new : List Scope) (scope : Scope) → new ≡ old ++ scope ∷ [] → reverse new ≡ scope ∷ reverse old
 scope_opens old new scope is = ap reverse is ∙ reverse-append old (scope ∷ [])
 
 pub scope_closes : (old new : List Scope) (scope : Scope) → old ≡ new ++ scope ∷ [] → reverse new ≡ outer_scopes (reverse old)
 scope_closes old new scope is = sym (ap outer_scopes (ap reverse is ∙ reverse-append new (scope ∷ [])))
+
+pub scope_is_taken : (old new : List Scope) (scope : Scope) → old ≡ new ++ scope ∷ [] → scope ≡ innermost (reverse old)
+scope_is_taken old new scope is = sym (ap innermost (ap reverse is ∙ reverse-append new (scope ∷ [])))
+
+pub none_is_taken : (old : List Scope) (scope : Scope) → old ≡ [] → scope ≡ [] → scope ≡ innermost (reverse old)
+none_is_taken old scope none is = is ∙ sym (ap (λ (l : List Scope). innermost (reverse l)) none)
 
 pub none_closes : (old new : List Scope) → old ≡ [] → new ≡ old → reverse new ≡ outer_scopes (reverse old)
 none_closes old new none same = ap reverse (same ∙ none) ∙ sym (ap (λ (l : List Scope). outer_scopes (reverse l)) none)

@@ -16,6 +16,7 @@ use Rattle.ocl_ast.specs.declared.units.Gives.{Gives}
 use Rattle.ocl_ast.specs.declared.units.Gives.TheVariants.{Nothing, Value}
 use Rattle.ocl_ast.specs.declared.units.Param.{Param}
 use Rattle.ocl_program.specs.Nodes.{FunctionNode}
+use Rattle.ocl_measures.specs.Recursion.{leads}
 use Rattle.ocl_program.specs.Measures.{expanded}
 use Rattle.ocl_types.specs.declared.faults.TypeFault.{TypeFault}
 use Rattle.ocl_types.specs.declared.faults.TypeFault.TheVariants.{Unknown, Twice, Mismatch, Recursive}
@@ -76,111 +77,111 @@ two e f = AndArg e (AndArg f NoArgs)
 
 -- a function as a variable, a scalar indexed, a kernel called, an array as a variable
 function_as_variable : judged (value (variable 44 (codes "f"))) ≡ Some (Mismatch (at 44))
-unfolding builtin_named expanded
+unfolding builtin_named expanded leads
 function_as_variable = refl
 
 kernel_called : judged (value (call 44 (codes "k") NoArgs)) ≡ Some (Mismatch (at 44))
-unfolding builtin_named expanded
+unfolding builtin_named expanded leads
 kernel_called = refl
 
 array_as_variable : judged (value (variable 44 (codes "a"))) ≡ Some (Mismatch (at 44))
-unfolding builtin_named expanded
+unfolding builtin_named expanded leads
 array_as_variable = refl
 
 builtin_as_variable : judged (value (variable 44 (codes "min"))) ≡ Some (Unknown (at 44))
-unfolding builtin_named expanded
+unfolding builtin_named expanded leads
 builtin_as_variable = refl
 
 -- a name in an argument comes before the number of the arguments, and that before their kinds
 argument_first : judged (value (call 44 (codes "f") (two (number 46 1) (variable 49 (codes "z"))))) ≡ Some (Unknown (at 49))
-unfolding builtin_named expanded
+unfolding builtin_named expanded leads
 argument_first = refl
 
 number_next : judged (value (call 44 (codes "f") (two (number 46 1) (number 49 2)))) ≡ Some (Mismatch (at 44))
-unfolding builtin_named expanded
+unfolding builtin_named expanded leads
 number_next = refl
 
 -- an array for a pointer of its space is accepted; for one of another space, a number for a pointer, and an array in parentheses are not
 array_given : judged (value (call 44 (codes "g") (one (variable 46 (codes "a"))))) ≡ None
-unfolding builtin_named expanded
+unfolding builtin_named expanded leads
 array_given = refl
 
 other_space : judged (value (call 44 (codes "h") (one (variable 46 (codes "a"))))) ≡ Some (Mismatch (at 46))
-unfolding builtin_named expanded
+unfolding builtin_named expanded leads
 other_space = refl
 
 number_for_pointer : judged (value (call 44 (codes "g") (one (BinaryTree Add (number 46 1) (number 50 2) (at 48))))) ≡ Some (Mismatch (at 46))
-unfolding builtin_named expanded
+unfolding builtin_named expanded leads
 number_for_pointer = refl
 
 in_parentheses : judged (value (call 44 (codes "g") (one (ParenTree (variable 47 (codes "a")) (at 46))))) ≡ Some (Mismatch (at 47))
-unfolding builtin_named expanded
+unfolding builtin_named expanded leads
 in_parentheses = refl
 
 -- a readonly array goes to no parameter that is written, and is not assigned
 readonly_given : fault_of (program_of (kernel true (only (value (call 44 (codes "g") (one (variable 46 (codes "a")))))))) ≡ Some (Mismatch (at 46))
-unfolding builtin_named expanded
+unfolding builtin_named expanded leads
 readonly_given = refl
 
 readonly_assigned : fault_of (program_of (kernel true (only (AssignTree (IndexTarget (named 36 (codes "a")) (variable 38 (codes "z")) (at 37)) Set (Some (number 43 1)) (at 41))))) ≡ Some (Mismatch (at 36))
-unfolding builtin_named expanded
+unfolding builtin_named expanded leads
 readonly_assigned = refl
 
 -- a call without value in an expression, and as a statement
 no_value : judged (value (call 44 (codes "n") NoArgs)) ≡ Some (Mismatch (at 44))
-unfolding builtin_named expanded
+unfolding builtin_named expanded leads
 no_value = refl
 
 as_statement : judged (CallStmtTree (named 36 (codes "n")) NoArgs) ≡ None
-unfolding builtin_named expanded
+unfolding builtin_named expanded leads
 as_statement = refl
 
 -- `mul_hi` of a char
 char_product : judged (value (call 44 (codes "mul_hi") (two (number 51 1) (CastTree Char (number 60 2) (at 54))))) ≡ Some (Mismatch (at 54))
-unfolding builtin_named expanded
+unfolding builtin_named expanded leads
 char_product = refl
 
 -- jumps
 no_loop : judged (BreakTree (at 36)) ≡ Some (Mismatch (at 36))
-unfolding builtin_named expanded
+unfolding builtin_named expanded leads
 no_loop = refl
 
 in_loop : judged (WhileTree (number 43 1) (BreakTree (at 46))) ≡ None
-unfolding builtin_named expanded
+unfolding builtin_named expanded leads
 in_loop = refl
 
 -- `return z;` in a function that gives nothing is a fault of the `return`
 value_from_kernel : judged (ReturnTree (Some (variable 43 (codes "z"))) (at 36)) ≡ Some (Mismatch (at 36))
-unfolding builtin_named expanded
+unfolding builtin_named expanded leads
 value_from_kernel = refl
 
 -- counts of arrays: 0, 1, 262144 and 262145, `1 && 1`, `2 - 3`, a name, and in an inner block
 none_of : judged (LocalArrayTree Int (named 48 (codes "t")) (number 50 0)) ≡ Some (Mismatch (at 48))
-unfolding builtin_named expanded
+unfolding builtin_named expanded leads
 none_of = refl
 
 one_of : judged (LocalArrayTree Int (named 48 (codes "t")) (BothTree (number 50 1) (number 55 1) (at 52))) ≡ None
-unfolding builtin_named expanded
+unfolding builtin_named expanded leads
 one_of = refl
 
 most_of : judged (LocalArrayTree Int (named 48 (codes "t")) (BinaryTree Shl (number 50 1) (number 55 18) (at 52))) ≡ None
-unfolding builtin_named expanded
+unfolding builtin_named expanded leads
 most_of = refl
 
 too_many_of : judged (LocalArrayTree Int (named 48 (codes "t")) (number 50 262145)) ≡ Some (Mismatch (at 48))
-unfolding builtin_named expanded
+unfolding builtin_named expanded leads
 too_many_of = refl
 
 below_none_of : judged (LocalArrayTree Int (named 48 (codes "t")) (BinaryTree Sub (number 50 2) (number 55 3) (at 52))) ≡ Some (Mismatch (at 48))
-unfolding builtin_named expanded
+unfolding builtin_named expanded leads
 below_none_of = refl
 
 name_in_count : judged (LocalArrayTree Int (named 48 (codes "t")) (variable 50 (codes "z"))) ≡ Some (Mismatch (at 48))
-unfolding builtin_named expanded
+unfolding builtin_named expanded leads
 name_in_count = refl
 
 inner_block : judged (BlockTree (only (LocalArrayTree Int (named 48 (codes "t")) (number 50 4)))) ≡ Some (Mismatch (at 48))
-unfolding builtin_named expanded
+unfolding builtin_named expanded leads
 inner_block = refl
 
 -- the head of a `for` and its body's block are two scopes; a variable of the head is not known behind it
@@ -189,11 +190,11 @@ counting = ForTree (only (DeclareTree Int false (named 45 (codes "i")) (Some (nu
     (only (AssignTree (NameTarget (named 59 (codes "i"))) Up None (at 60))) (BlockTree (only (DeclareTree Int false (named 70 (codes "i")) None)))
 
 for_scopes : judged counting ≡ None
-unfolding builtin_named expanded
+unfolding builtin_named expanded leads
 for_scopes = refl
 
 behind_for : fault_of (program_of (kernel false (AndStmt counting (only (AssignTree (NameTarget (named 80 (codes "i"))) Up None (at 81)))))) ≡ Some (Unknown (at 80))
-unfolding builtin_named expanded
+unfolding builtin_named expanded leads
 behind_for = refl
 
 -- two helpers that call each other, the first in the file is named; a function with a built-in function's name
@@ -201,9 +202,9 @@ abbrev calling : ℕ → List ℕ → List ℕ → FunctionTree
 calling col text callee = function_of false col text (Value Int) [] (only (ReturnTree (Some (call 20 callee NoArgs)) (at 12)))
 
 through_two : fault_of (program_of (calling 5 (codes "e") (codes "c") ∷ calling 6 (codes "c") (codes "d") ∷ calling 7 (codes "d") (codes "c") ∷ [])) ≡ Some (Recursive (at 6))
-unfolding builtin_named expanded
+unfolding builtin_named expanded leads
 through_two = refl
 
 builtin_twice : fault_of (program_of (function_of false 5 (codes "max") (Value Int) [] NoStmts ∷ [])) ≡ Some (Twice (at 5))
-unfolding builtin_named expanded
+unfolding builtin_named expanded leads
 builtin_twice = refl

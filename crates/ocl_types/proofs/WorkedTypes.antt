@@ -15,6 +15,7 @@ use Rattle.ocl_ast.specs.declared.units.Param.{Param}
 use Rattle.ocl_program.specs.declared.exprs.ArrayRef.TheVariants.{Parameter, Declared}
 use Rattle.ocl_program.specs.declared.functions.CallSite.{CallSite}
 use Rattle.ocl_program.specs.Nodes.{ExprNode, NumberNode, VariableNode, BinaryNode, LoadNode, CallNode, NoArgs as NoArgNodes, ValueArg, StmtNode, DeclareNode, SetVariableNode, SetElementNode, BlockNode, StmtNodes, NoStmts as NoNodes, AndStmt as AndNode, FunctionNode}
+use Rattle.ocl_measures.specs.Recursion.{leads}
 use Rattle.ocl_program.specs.Measures.{expanded, measures_of}
 use Rattle.ocl_types.specs.declared.faults.TypeFault.{TypeFault}
 use Rattle.ocl_types.specs.declared.faults.TypeFault.TheVariants.{Unknown, Twice, Mismatch, Recursive}
@@ -71,7 +72,7 @@ twice_before_value = refl
 
 -- `int f(int x) { return f(x); }` reaches a call of itself
 recursive_helper : program_of (helper_of (CallTree (f_at 22) (AndArg (NameTree (x_at 24)) NoArgs)) ∷ []) ≡ Err (Recursive (record { line = 1; col = 5 }))
-unfolding builtin_named
+unfolding builtin_named leads
 recursive_helper = refl
 
 -- `int x = x + 1u; { int x; x = 2; } a[x] = f(x);`, with a helper behind the kernel: the right x is the new one, an inner x hides the
@@ -101,9 +102,9 @@ first_body [] = NoNodes
 first_body (body ∷ more) = body
 
 resolved_body : first_body (bodies (program_of (kernel_of mixed ∷ helper_of (NameTree (x_at 30)) ∷ []))) ≡ mixed_nodes
-unfolding builtin_named expanded first_body
+unfolding builtin_named expanded leads first_body
 resolved_body = refl
 
 call_table : tables (program_of (kernel_of mixed ∷ helper_of (NameTree (x_at 30)) ∷ [])) ≡ (record { callee = 1; variables = 2; sites = 0 } ∷ []) ∷ [] ∷ []
-unfolding builtin_named expanded
+unfolding builtin_named expanded leads
 call_table = refl

@@ -1,5 +1,6 @@
 -- The typing of the functions of a file: their names, then each function, then that none reaches a call of itself, then the limits.
 use Rattle.std.specs.Prelude.{ℕ, zero, suc, ◌+◌, ◌==◌, nat_lt, Bool, true, false, ◌&&◌, ◌||◌, is_some, if◌then◌else◌, List, [], ◌∷◌, ◌++◌, length, map, slice_get, Option, None, Some, Result, Ok, Err}
+use Rattle.std.specs.Str.{bytes_eq}
 use Rattle.vx_base.specs.declared.types.ParamKind.{ParamKind}
 use Rattle.vx_base.specs.declared.types.ParamKind.TheVariants.{Scalar, Pointer}
 use Rattle.vx_base.specs.declared.types.Pos.{Pos}
@@ -10,6 +11,9 @@ use Rattle.ocl_program.specs.declared.functions.CallSite.{CallSite}
 use Rattle.ocl_program.specs.declared.functions.LocalArray.{LocalArray}
 use Rattle.ocl_program.specs.Nodes.{FunctionNode, StmtNode, stmt_nodes}
 use Rattle.ocl_program.specs.Measures.{cut, callees, measured, own_variables, own_sites, own_nodes, own_depth, own_control, own_calls}
+use Rattle.ocl_measures.specs.Recursion.{is_recursive}
+use Rattle.ocl_measures.specs.Totals.{variables_of, sites_of}
+use Rattle.ocl_measures.specs.declared.sizes.Totals.{Totals}
 use Rattle.ocl_types.specs.declared.faults.Counted.{Counted}
 use Rattle.ocl_types.specs.declared.faults.Counted.TheVariants.{Params, Variables, Nodes}
 use Rattle.ocl_types.specs.declared.faults.TypeFault.{TypeFault}
@@ -70,26 +74,6 @@ abbrev pub typed_functions : List FunctionTree → List FunctionNode → List Fu
 typed_functions functions before [] = Ok before
 typed_functions functions before (f ∷ more) = typed_function functions f >>= λ node. typed_functions functions (before ++ node ∷ []) more
 
--- ---- recursion
-
-abbrev pub callees_at : Option FunctionNode → List ℕ
-callees_at None = []
-callees_at (Some f) = callees f
-
--- whether one of some callees is function `to`, or leads on to it
-abbrev pub some_leads : (ℕ → Bool) → ℕ → List ℕ → Bool
-some_leads onward to [] = false
-some_leads onward to (k ∷ ks) = (k == to) || (onward k || some_leads onward to ks)
-
--- whether at most n calls, each in the body of the callee of the one before it, lead from function `from` to a call of function `to`
-abbrev pub leads : List FunctionNode → ℕ → ℕ → ℕ → Bool
-leads program zero to from = false
-leads program (suc n) to from = some_leads (leads program n to) to (callees_at (slice_get program from))
-
--- whether a function can reach a call of itself; what is reached at all is reached by as many calls as there are functions
-abbrev pub is_recursive : List FunctionNode → ℕ → Bool
-is_recursive program k = leads program (length program) k k
-
 -- ---- limits
 
 abbrev pub unless_fault : Option TypeFault → Result (Unit {0}) TypeFault → Result (Unit {0}) TypeFault
@@ -125,14 +109,19 @@ most_control = 30
 abbrev pub most_calls : ℕ
 most_calls = 31
 
--- a kernel's variables, its arrays, its nodes, and how deep its branches, loops and calls are nested, with its calls expanded
+-- a kernel's variables, its arrays, its nodes, and how deep its branches, loops and calls are nested
+abbrev pub sized_fault : FunctionNode → ℕ → ℕ → ℕ → ℕ → Option TypeFault
+sized_fault f variables nodes control calls =
+    if nat_lt most_variables variables then Some (TooMany f.name.pos Variables (cut variables))
+    else if nat_lt most_arrays (length f.arrays) then Some (TooMany f.name.pos Variables (cut (length f.arrays)))
+    else if nat_lt most_nodes nodes then Some (TooMany f.name.pos Nodes (cut nodes))
+    else if nat_lt most_control control || nat_lt most_calls calls then Some (TooNested f.name.pos)
+    else None
+
+-- the same with its calls expanded
 abbrev pub size_fault : List FunctionNode → ℕ → FunctionNode → Option TypeFault
 size_fault program k f =
-    if nat_lt most_variables (measured own_variables program k) then Some (TooMany f.name.pos Variables (cut (measured own_variables program k)))
-    else if nat_lt most_arrays (length f.arrays) then Some (TooMany f.name.pos Variables (cut (length f.arrays)))
-    else if nat_lt most_nodes (measured own_nodes program k) then Some (TooMany f.name.pos Nodes (cut (measured own_nodes program k)))
-    else if nat_lt most_control (measured own_control program k) || nat_lt most_calls (measured own_calls program k) then Some (TooNested f.name.pos)
-    else None
+    sized_fault f (measured own_variables program k) (measured own_nodes program k) (measured own_control program k) (measured own_calls program k)
 
 abbrev pub kernel_fault : List FunctionNode → ℕ → FunctionNode → Option TypeFault
 kernel_fault program k f = if f.kernel then size_fault program k f else None
@@ -148,13 +137,30 @@ sites_from variables sites v s (k ∷ ks) =
 abbrev pub placed : List FunctionNode → FunctionNode → FunctionNode
 placed program f = record f { calls = sites_from (measured own_variables program) (measured own_sites program) f.variables f.sites (callees f) }
 
+-- the same by a table of totals
+abbrev pub placed_by : List Totals → FunctionNode → FunctionNode
+placed_by totals f = record f { calls = sites_from (variables_of totals) (sites_of totals) f.variables f.sites (callees f) }
+
 -- ---- a file
+
+-- the first fault of typed functions: that one is recursive, then the limits
+abbrev pub within_limits : List FunctionNode → Result (Unit {0}) TypeFault
+within_limits program =
+    each_from (recursion_of program) 0 program >>= λ _.
+    each_from params_fault 0 program >>= λ _.
+    each_from (kernel_fault program) 0 program
+
+-- the functions of a file, typed
+abbrev pub bodies_of : List FunctionTree → Result (List FunctionNode) TypeFault
+bodies_of functions = names_from [] functions >>= λ _. typed_functions functions [] functions
 
 -- the program of a file, or the first fault
 abbrev pub program_of : List FunctionTree → Result (List FunctionNode) TypeFault
-program_of functions = names_from [] functions >>= λ _.
-    typed_functions functions [] functions >>= λ program.
-    each_from (recursion_of program) 0 program >>= λ _.
-    each_from params_fault 0 program >>= λ _.
-    each_from (kernel_fault program) 0 program >>= λ _.
+program_of functions = bodies_of functions >>= λ program.
+    within_limits program >>= λ _.
     Ok (map (placed program) program)
+
+-- the number of the kernel with a name, counted from n
+abbrev pub kernel_from : ℕ → List ℕ → List FunctionNode → Option ℕ
+kernel_from n name [] = None
+kernel_from n name (f ∷ more) = if f.kernel && bytes_eq name f.name.text then Some n else kernel_from (n + 1) name more

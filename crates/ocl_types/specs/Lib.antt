@@ -4,3 +4,4 @@ pub mod Stmts
 pub mod Functions
 pub mod Tables
 pub mod Answers
+pub mod Results

@@ -16,6 +16,7 @@ use Rattle.ocl_program.specs.declared.functions.LocalArray.{LocalArray}
 use Rattle.ocl_program.specs.Nodes.{ExprNode, NumberNode, UnaryNode, BinaryNode, BothNode, EitherNode, ParenNode, StmtNode, DeclareNode, LocalArrayNode, SetVariableNode, SetElementNode, CallStmtNode, BarrierNode, IfNode, IfElseNode, WhileNode, DoNode, ForNode, BreakNode, ContinueNode, ReturnNode, BlockNode, EmptyNode, stmt_nodes}
 use Rattle.ocl_program.specs.Values.{binary_value, unary_value}
 use Rattle.ocl_program.specs.Measures.{cut}
+use Rattle.ocl_types.specs.declared.changes.WritableArray.{WritableArray}
 use Rattle.ocl_types.specs.declared.faults.TypeFault.{TypeFault}
 use Rattle.ocl_types.specs.declared.faults.TypeFault.TheVariants.{Unknown, Twice, Mismatch}
 use Rattle.ocl_types.specs.declared.names.Binding.{Binding}
@@ -48,9 +49,12 @@ abbrev pub innermost : List Scope → Scope
 innermost [] = []
 innermost (scope ∷ outer) = scope
 
+abbrev pub outer_scopes : List Scope → List Scope
+outer_scopes [] = []
+outer_scopes (scope ∷ outer) = outer
+
 abbrev pub with_entry : List ℕ → Binding → List Scope → List Scope
-with_entry name binding [] = ((name, binding) ∷ []) ∷ []
-with_entry name binding (scope ∷ outer) = (scope ++ (name, binding) ∷ []) ∷ outer
+with_entry name binding scopes = (innermost scopes ++ (name, binding) ∷ []) ∷ outer_scopes scopes
 
 -- a name of its own for the innermost scope, of a variable or an array
 abbrev pub declared : Ident → Binding → Standing → Result Standing TypeFault
@@ -66,10 +70,6 @@ declared_variable name binding st = declared name (binding st.variables) st >>= 
 
 abbrev pub opened : Standing → Standing
 opened st = record st { scopes = [] ∷ st.scopes }
-
-abbrev pub outer_scopes : List Scope → List Scope
-outer_scopes [] = []
-outer_scopes (scope ∷ outer) = outer
 
 abbrev pub closed : Standing → Standing
 closed st = record st { scopes = outer_scopes st.scopes }
@@ -103,14 +103,14 @@ count_value e = 0
 abbrev pub most_elements : ℕ
 most_elements = 262144
 
-abbrev pub checked_count : Pos → Bool → Typed → Result Typed TypeFault
-checked_count pos outermost t =
-    if outermost && (nat_le 1 (count_value t.expr) && nat_le (count_value t.expr) most_elements) then Ok t else Err (Mismatch pos)
+abbrev pub checked_count : Pos → Bool → ExprNode → Result ExprNode TypeFault
+checked_count pos outermost count =
+    if outermost && (nat_le 1 (count_value count) && nat_le (count_value count) most_elements) then Ok count else Err (Mismatch pos)
 
 -- a count in its place; no name in it is looked up
-abbrev pub typed_count : Place → Pos → ExprTree → Result Typed TypeFault
+abbrev pub typed_count : Place → Pos → ExprTree → Result ExprNode TypeFault
 typed_count place pos count =
-    if is_count count then (typed place.functions [] [] count >>= λ t. checked_count pos place.outermost t) else Err (Mismatch pos)
+    if is_count count then (typed place.functions [] [] count >>= λ t. checked_count pos place.outermost t.expr) else Err (Mismatch pos)
 
 -- ---- assignments
 
@@ -134,10 +134,6 @@ assigned_name pos calls (BuiltinMeaning b) = Err (Unknown pos)
 assigned_name pos calls UnknownMeaning = Err (Unknown pos)
 
 -- an array of which an element is assigned
-pub record WritableArray : Type 0 where
-  pub array : ArrayRef
-  pub elem : Elem
-
 abbrev pub assigned_array : Pos → Meaning → Result WritableArray TypeFault
 assigned_array pos (Bound (ScalarBinding variable elem constant)) = Err (Mismatch pos)
 assigned_array pos (Bound (ArrayBinding array space elem readonly)) = if readonly then Err (Mismatch pos) else Ok (record { array = array; elem = elem })
@@ -197,7 +193,7 @@ abbrev mutual
   typed_stmt place st (LocalArrayTree elem name count) =
       declared_variable name (λ variable. ArrayBinding (Declared (cut (length st.arrays))) Local elem false) st >>= λ now.
       typed_count place name.pos count >>= λ c.
-      Ok (LocalArrayNode (cut (length st.arrays)) c.expr, record now { arrays = st.arrays ++ record { elem = elem; count = count_value c.expr } ∷ [] })
+      Ok (LocalArrayNode (cut (length st.arrays)) c, record now { arrays = now.arrays ++ record { elem = elem; count = count_value c } ∷ [] })
   typed_stmt place st (AssignTree target op value pos) =
       typed_target place.functions st.scopes st.calls target >>= λ t. typed_option place.functions st.scopes t.calls value >>= λ v.
       Ok (change_node t op v t.what, with_calls v.calls st)

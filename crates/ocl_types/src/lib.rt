@@ -4,12 +4,25 @@
 //! statements, and `specs/Functions.antt` the functions of a file with their limits.
 #![tactic(auto)]
 
+pub mod args;
+pub mod bodies;
 pub mod builtins;
+pub mod calls;
+pub mod changes;
+pub mod counts;
+pub mod exprs;
 pub mod faults;
+pub mod file;
 pub mod functions;
 pub mod kinds;
+pub mod limits;
 pub mod names;
 pub mod parts;
+pub mod programs;
 pub mod scopes;
+pub mod simple;
+pub mod standing;
+pub mod uses;
 
 pub use faults::{Counted, TypeFault};
+pub use programs::Program;

@@ -1,7 +1,7 @@
 //! The scopes of a function, each a table of names in order of declaration.
 ghost use Rattle.std.specs.Prelude.{◌≡◌, ◌∷◌, ◌++◌, [], None, OnOk, reverse};
 ghost use Rattle.ocl_types.specs.Names.{entry_named, binding_named};
-ghost use Rattle.ocl_types.specs.Stmts.{outer_scopes};
+ghost use Rattle.ocl_types.specs.Stmts.{innermost, outer_scopes};
 
 use crate::names::Binding;
 use indexmap::IndexMap;
@@ -80,13 +80,25 @@ impl<'a> Scopes<'a> {
         }
     }
 
-    /// Opens a scope without names.
+    /// Opens a scope with some names.
     #[tactic(auto, using(crate::proofs::ScopeLaws::scope_opens))]
-    pub fn open(&mut self, alloc: Global) -> Result<(), AllocFailed<NameTable<'a>>>
-        ensures { OnOk result (self.new ≡ [] ∷ self.old) }
+    pub fn open(&mut self, table: NameTable<'a>) -> Result<(), AllocFailed<NameTable<'a>>>
+        ensures { OnOk result (self.new ≡ table.entry ∷ self.old) }
     {
-        self.tables.push(NameTable::new(alloc))?;
+        self.tables.push(table)?;
         Ok(())
+    }
+
+    /// Closes the innermost scope and gives its names; none where there is no scope.
+    #[tactic(auto, using(crate::proofs::ScopeLaws::scope_closes, crate::proofs::ScopeLaws::scope_is_taken, crate::proofs::ScopeLaws::none_closes, crate::proofs::ScopeLaws::none_is_taken))]
+    pub fn take_innermost(&mut self, alloc: Global) -> NameTable<'a>
+        ensures table { result ≡ innermost self.old }
+        ensures outer { self.new ≡ outer_scopes self.old }
+    {
+        match self.tables.pop() {
+            Some(table) => table,
+            None => NameTable::new(alloc),
+        }
     }
 
     /// Closes the innermost scope, if there is one.
