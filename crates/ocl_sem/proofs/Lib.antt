@@ -1,4 +1,5 @@
 mod WorkedItems
+mod WorkedCosts
 pub mod Unfolding
 pub mod StatementLaws
 pub mod JumpLaws

@@ -6,3 +6,4 @@ pub mod Items
 pub mod Views
 pub mod Launched
 pub mod LaunchViews
+pub mod Spending
