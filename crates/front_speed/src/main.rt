@@ -1,9 +1,11 @@
 //! The program `front_speed`: takes the tokens of a text that it makes, for measurements of speed (`bench/`). Its words are
 //! what the text is made of, `names`, `marks`, `uses` (of macros that use others), `nested` (macros that stand deep in one
-//! another) or `undefs` (macros that are all undefined again), and how many bytes it has at most, up to 1,048,576. It prints the bytes and the tokens.
+//! another), `undefs` (macros that are all undefined again) or `program` (statements of one function, which it also parses), and how many
+//! bytes it has at most, up to 1,048,576. It prints the bytes and the tokens.
 #![tactic(auto)]
 
 use ocl_lex::{LexFault, lex};
+use ocl_parser::parse;
 use std::alloc::{AllocError, Global};
 use std::env;
 use std::process::ExitCode;
@@ -16,6 +18,7 @@ enum Kind {
     Uses,
     Nested,
     Undefs,
+    Program,
 }
 
 fn kind_of(word: &str) -> Option<Kind> {
@@ -25,6 +28,7 @@ fn kind_of(word: &str) -> Option<Kind> {
         "uses" => Some(Kind::Uses),
         "nested" => Some(Kind::Nested),
         "undefs" => Some(Kind::Undefs),
+        "program" => Some(Kind::Program),
         _ => None,
     }
 }
@@ -80,6 +84,14 @@ fn defined_and_undefined(alloc: Global, bytes: usize) -> Result<Vec<u8>, AllocEr
     Ok(text)
 }
 
+/// A function of which one statement stands again and again.
+fn program(alloc: Global, bytes: usize) -> Result<Vec<u8>, AllocError> {
+    let statement = b"  if (a < b) { c[a] = (b + 1) * d(a, 2); }\n";
+    let mut text = repeated(alloc, b"void f() {\n", statement, bytes.saturating_sub(1))?;
+    text.extend_from_slice(b"}")?;
+    Ok(text)
+}
+
 fn make_text(alloc: Global, kind: Kind, bytes: usize) -> Result<Vec<u8>, AllocError> {
     match kind {
         Kind::Names => repeated(alloc, b"", b"ab cd_1\n", bytes),
@@ -87,15 +99,19 @@ fn make_text(alloc: Global, kind: Kind, bytes: usize) -> Result<Vec<u8>, AllocEr
         Kind::Uses => repeated(alloc, b"#define A B\n#define B c\n", b"A  ", bytes),
         Kind::Nested => chained(alloc, bytes),
         Kind::Undefs => defined_and_undefined(alloc, bytes),
+        Kind::Program => program(alloc, bytes),
     }
 }
 
-/// How many tokens a text has.
-fn count_tokens(alloc: Global, text: &[u8]) -> Result<usize, LexFault> {
+/// How many tokens a text has, or 0 where it is a program that the parser refuses.
+fn count_tokens(alloc: Global, kind: Kind, text: &[u8]) -> Result<usize, LexFault> {
     if text.len() > 1_048_576 {
         return Ok(0);
     }
     let tokens = lex(alloc, text)?;
+    if kind == Kind::Program && parse(alloc, &tokens).is_err() {
+        return Ok(0);
+    }
     Ok(tokens.len())
 }
 
@@ -113,7 +129,7 @@ fn main(rt: HostRuntime) -> ExitCode {
     let Ok(text) = make_text(rt.alloc(), kind, bytes) else {
         return ExitCode::from(9);
     };
-    let Ok(tokens) = count_tokens(rt.alloc(), text.as_slice()) else {
+    let Ok(tokens) = count_tokens(rt.alloc(), kind, text.as_slice()) else {
         return ExitCode::from(3);
     };
     match println!(rt; "{} {tokens}", text.len()) {

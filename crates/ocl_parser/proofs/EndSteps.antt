@@ -1,5 +1,5 @@
 -- The token at the end of a file ends it, or no file goes on with it.
-use Rattle.std.proofs.Common.{◌≡◌, refl, sym, subst, ap, ◌∙◌, Bool, false, List, [], ◌∷◌}
+use Rattle.std.proofs.Common.{◌≡◌, refl, sym, subst, Bool, false, List, [], ◌∷◌}
 use Rattle.vx_base.specs.declared.types.Pos.{Pos}
 use Rattle.ocl_ast.specs.Trees.{ExprTree, NameTree, StmtTree, FunctionTree}
 use Rattle.ocl_tokens.specs.declared.tokens.Token.{Token}
@@ -113,7 +113,7 @@ stmt_over pos (StepStart first test) K = refl
 stmt_over pos (Returning at) K = refl
 
 -- the file has ended, or no file goes on
-abbrev EndsFile : UnitNext → Type 0
+abbrev pub EndsFile : UnitNext → Type 0
 EndsFile (Reads focus) = focus ≡ AtEnd
 EndsFile (Adds f) = ⊥
 EndsFile Fails = Unit {0}
@@ -136,11 +136,5 @@ unit_over pos (ParamsClosed head ps) = tt
 unit_over pos (Inside head ps focus K) = subst (λ next. EndsFile (inside_step next head ps)) (sym (stmt_over pos focus K)) tt
 unit_over pos AtEnd = tt
 
-over : (t : Token) (focus : UnitFocus) (next : UnitNext) → next ≡ unit_step t.kind t.pos focus → t.kind ≡ End → EndsFile next
-over t focus next e k = subst EndsFile (sym (e ∙ ap (λ kind. unit_step kind t.pos focus) k)) (unit_over t.pos focus)
-
-pub end_reads : (t : Token) (focus next : UnitFocus) → Reads next ≡ unit_step t.kind t.pos focus → t.kind ≡ End → next ≡ AtEnd
-end_reads t focus next e k = over t focus (Reads next) e k
-
-pub end_adds : (t : Token) (focus : UnitFocus) (f : FunctionTree) → Adds f ≡ unit_step t.kind t.pos focus → t.kind ≡ End → Outside ≡ AtEnd
-end_adds t focus f e k = absurd (over t focus (Adds f) e k)
+pub over : (t : Token) (focus : UnitFocus) → t.kind ≡ End → EndsFile (unit_step t.kind t.pos focus)
+over t focus k = subst (λ kind. EndsFile (unit_step kind t.pos focus)) (sym k) (unit_over t.pos focus)

@@ -21,3 +21,6 @@ pub mod ExprOrder
 pub mod StmtOrder
 pub mod UnitOrder
 pub mod EndSteps
+pub mod Closing
+pub mod Follow
+pub mod UnitClosing

@@ -7,7 +7,7 @@ use Rattle.ocl_ast.specs.Trees.{FunctionTree}
 use Rattle.ocl_ast.specs.declared.units.Function.{Function}
 use Rattle.ocl_tokens.specs.declared.tokens.Token.{Token}
 use Rattle.ocl_tokens.specs.declared.tokens.TokenKind.TheVariants.{End}
-use Rattle.ocl_parser.specs.Faults.{AreEnded, is_left_out, BeginNoFile, IsFaultOf, IsRefused, IsRefusalOf, IsStop}
+use Rattle.ocl_parser.specs.Faults.{AreEnded, is_left_out, BeginNoFile, BeginSomeFile, IsFaultOf, IsRefused, IsRefusalOf, IsStep, IsStop}
 use Rattle.ocl_parser.specs.Runs.{ended, go_on, run}
 use Rattle.ocl_parser.specs.Units.{Derives}
 use Rattle.ocl_parser.specs.UnitSteps.{UnitNext, Reads, Adds, Fails, unit_step}
@@ -19,27 +19,31 @@ use Rattle.ocl_parser.proofs.Lists.{reverse_push}
 use Rattle.ocl_parser.proofs.UnitComplete.{some_inj, unit_complete}
 use Rattle.ocl_parser.proofs.UnitSound.{none_some}
 use Rattle.ocl_parser.proofs.UnitOrder.{run_derives}
+use Rattle.ocl_parser.proofs.EndSteps.{EndsFile, over}
+use Rattle.ocl_parser.proofs.Closing.{Ends}
+use Rattle.ocl_parser.proofs.UnitClosing.{CanBe, CanBeNext, unit_follows, unit_ends}
 
-on_next : (t : Token) (focus : UnitFocus) (functions : List FunctionTree) (next : UnitNext) → next ≡ unit_step t.kind t.pos focus → (ts : List Token) →
-    run focus functions (t ∷ ts) ≡ go_on next functions (λ f all. run f all ts)
-on_next t focus functions next e ts = ap (λ n. go_on n functions (λ f all. run f all ts)) (sym e)
+reads_fails : {focus : UnitFocus} → Reads focus ≡ Fails → ⊥
+reads_fails e = cc
 
-pub reads_on : (t : Token) (focus next : UnitFocus) (functions : List FunctionTree) → Reads next ≡ unit_step t.kind t.pos focus → (ts : List Token) →
-    run focus functions (t ∷ ts) ≡ run next functions ts
-reads_on t focus next functions e ts = on_next t focus functions (Reads next) e ts
+-- what a token does, told by what the code does with it
+pub step_reads : (n : UnitNext) (next : UnitFocus) (fs : List FunctionTree) → Reads next ≡ n → IsStep n next fs fs
+step_reads n next fs e = subst (λ m. IsStep m next fs fs) e (refl, refl)
 
-pub adds_on : (t : Token) (focus : UnitFocus) (fs : List Function) (f : Function) → Adds (function_tree f) ≡ unit_step t.kind t.pos focus → (ts : List Token) →
-    run focus (map function_tree fs) (t ∷ ts) ≡ run Outside (map function_tree (fs ++ (f ∷ []))) ts
-adds_on t focus fs f e ts =
-    on_next t focus (map function_tree fs) (Adds (function_tree f)) e ts ∙ ap (λ z. run Outside z ts) (sym (map-append function_tree fs (f ∷ [])))
+pub step_adds : (n : UnitNext) (fs : List Function) (f : Function) → Adds (function_tree f) ≡ n → IsStep n Outside (map function_tree fs) (map function_tree (fs ++ (f ∷ [])))
+step_adds n fs f e =
+    subst (λ m. IsStep m Outside (map function_tree fs) (map function_tree (fs ++ (f ∷ [])))) e (refl, map-append function_tree fs (f ∷ []))
 
 -- a token with which no file goes on
-pub stops_on : (t : Token) (focus : UnitFocus) (functions : List FunctionTree) (fault : ParseFault) → IsRefusalOf fault t → Fails ≡ unit_step t.kind t.pos focus →
-    IsStop fault t focus functions
-stops_on t focus functions (Unexpected pos) r e = (r.0, r.1, on_next t focus functions Fails e)
-stops_on t focus functions (Subset pos) r e = (r.0, r.1, on_next t focus functions Fails e)
-stops_on t focus functions (TooDeep pos) r e = absurd r
-stops_on t focus functions Memory r e = absurd r
+pub stops_on : (t : Token) (n : UnitNext) (fault : ParseFault) → IsRefusalOf fault t → Fails ≡ n → IsStop fault t n
+stops_on t n (Unexpected pos) r e = (r.0, r.1, sym e)
+stops_on t n (Subset pos) r e = (r.0, r.1, sym e)
+stops_on t n (TooDeep pos) r e = absurd r
+stops_on t n Memory r e = absurd r
+
+-- a token with which only files beyond the limits go on
+pub too_deep : (t : Token) (n : UnitNext) (next : UnitFocus) → Reads next ≡ n → IsStop (TooDeep t.pos) t n
+too_deep t n next e = (refl, λ h. reads_fails (e ∙ h))
 
 -- The reader stands at this focus and behind these functions once it has read the tokens.
 abbrev pub HasRead : List Token → UnitFocus → List FunctionTree → Type 0
@@ -64,37 +68,80 @@ empty_not (t ∷ ts) last e = cc
 pub none_ended : (focus : UnitFocus) → HasEnded [] focus
 none_ended focus = λ before last e k. absurd (empty_not before last e)
 
+-- one token more
+goes_run : (t : Token) (focus next : UnitFocus) (fs gs : List FunctionTree) (n : UnitNext) → IsStep n next fs gs → (ts : List Token) →
+    go_on n fs (λ f all. run f all ts) ≡ run next gs ts
+goes_run t focus next fs gs (Reads f) s ts = ap (λ x. run x fs ts) (sym s.0) ∙ ap (λ all. run next all ts) (sym s.1)
+goes_run t focus next fs gs (Adds f) s ts = ap (λ x. run x (fs ++ (f ∷ [])) ts) (sym s.0) ∙ ap (λ all. run next all ts) (sym s.1)
+goes_run t focus next fs gs Fails s ts = absurd s
+
 pub reads_more : (tokens : List Token) (i : ℕ) (t : Token) (focus next : UnitFocus) (fs gs : List FunctionTree) → i < length tokens → t ≡ get_or tokens i t →
-    HasRead (take i tokens) focus fs → ((ts : List Token) → run focus fs (t ∷ ts) ≡ run next gs ts) → HasRead (take (i + 1) tokens) next gs
-reads_more tokens i t focus next fs gs h is reads goes =
-    λ ts. ap (λ front. run Outside [] (front ++ ts)) (one_more tokens i t h is) ∙ ap (run Outside []) (append_assoc (take i tokens) (t ∷ []) ts) ∙ reads (t ∷ ts) ∙ goes ts
+    HasRead (take i tokens) focus fs → IsStep (unit_step t.kind t.pos focus) next fs gs → HasRead (take (i + 1) tokens) next gs
+reads_more tokens i t focus next fs gs h is reads step =
+    λ ts. ap (λ front. run Outside [] (front ++ ts)) (one_more tokens i t h is) ∙ ap (run Outside []) (append_assoc (take i tokens) (t ∷ []) ts) ∙ reads (t ∷ ts) ∙
+    goes_run t focus next fs gs (unit_step t.kind t.pos focus) step ts
+
+end_step : (n : UnitNext) (next : UnitFocus) (fs gs : List FunctionTree) → IsStep n next fs gs → EndsFile n → next ≡ AtEnd
+end_step (Reads f) next fs gs s h = s.0 ∙ h
+end_step (Adds f) next fs gs s h = absurd h
+end_step Fails next fs gs s h = absurd s
+
+pub step_ends : (t : Token) (focus next : UnitFocus) (fs gs : List FunctionTree) → IsStep (unit_step t.kind t.pos focus) next fs gs → t.kind ≡ End → next ≡ AtEnd
+step_ends t focus next fs gs s k = end_step (unit_step t.kind t.pos focus) next fs gs s (over t focus k)
+
+can_step : (n : UnitNext) (next : UnitFocus) (fs gs : List FunctionTree) → IsStep n next fs gs → CanBeNext n → CanBe next
+can_step (Reads f) next fs gs s c = subst CanBe (sym s.0) c
+can_step (Adds f) next fs gs s c = subst CanBe (sym s.0) tt
+can_step Fails next fs gs s c = absurd s
+
+pub step_can : (t : Token) (focus next : UnitFocus) (fs gs : List FunctionTree) → IsStep (unit_step t.kind t.pos focus) next fs gs → CanBe focus → CanBe next
+step_can t focus next fs gs s c = can_step (unit_step t.kind t.pos focus) next fs gs s (unit_follows t.kind t.pos focus c)
 
 pub ends_more : (tokens : List Token) (i : ℕ) (t : Token) (next : UnitFocus) → i < length tokens → t ≡ get_or tokens i t → (t.kind ≡ End → next ≡ AtEnd) →
     HasEnded (take (i + 1) tokens) next
 ends_more tokens i t next h is at =
     λ before last e k. at (ap (λ (x : Token). x.kind) (sym (last_same before (take i tokens) last t (sym e ∙ one_more tokens i t h is))) ∙ k)
 
+-- tokens behind which the reader stands go on to a file
+begin_some : (front : List Token) (focus : UnitFocus) (fs : List FunctionTree) → HasRead front focus fs → CanBe focus → BeginSomeFile front
+begin_some front focus fs reads c =
+    let x : Ends focus fs = unit_ends focus fs c in
+    (x.0, x.1, run_derives (front ++ x.0) x.1 (reads x.0 ∙ x.2))
+
 -- no file begins with tokens at which the reader stops
-begin_none : (front : List Token) (t : Token) (focus : UnitFocus) (fs : List FunctionTree) → HasRead front focus fs → ((ts : List Token) → run focus fs (t ∷ ts) ≡ None) →
+begin_none : (front : List Token) (t : Token) (focus : UnitFocus) (fs : List FunctionTree) → HasRead front focus fs → unit_step t.kind t.pos focus ≡ Fails →
     BeginNoFile (front ++ (t ∷ []))
 begin_none front t focus fs reads stops =
-    λ behind gs d. none_some (sym (ap (run Outside []) (append_assoc front (t ∷ []) behind) ∙ reads (t ∷ behind) ∙ stops behind) ∙ unit_complete ((front ++ (t ∷ [])) ++ behind) gs d)
+    λ behind gs d.
+    none_some (sym (ap (run Outside []) (append_assoc front (t ∷ []) behind) ∙ reads (t ∷ behind) ∙ ap (λ n. go_on n fs (λ f all. run f all behind)) stops) ∙
+    unit_complete ((front ++ (t ∷ [])) ++ behind) gs d)
 
-why_refused : (fault : ParseFault) (front : List Token) (t : Token) (focus : UnitFocus) (fs : List FunctionTree) → HasRead front focus fs → IsStop fault t focus fs →
-    IsFaultOf fault front t
-why_refused (Unexpected pos) front t focus fs reads s = (s.0, s.1, begin_none front t focus fs reads s.2)
-why_refused (Subset pos) front t focus fs reads s = (s.0, s.1, begin_none front t focus fs reads s.2)
-why_refused (TooDeep pos) front t focus fs reads s = s
-why_refused Memory front t focus fs reads s = tt
+-- with a token that the reader reads, a file goes on
+begin_with : (front : List Token) (t : Token) (fs : List FunctionTree) (n : UnitNext) → (n ≡ Fails → ⊥) → CanBeNext n →
+    ((ts : List Token) → run Outside [] (front ++ (t ∷ ts)) ≡ go_on n fs (λ f all. run f all ts)) → BeginSomeFile (front ++ (t ∷ []))
+begin_with front t fs (Reads f) no c reads =
+    begin_some (front ++ (t ∷ [])) f fs (λ ts. ap (run Outside []) (append_assoc front (t ∷ []) ts) ∙ reads ts) c
+begin_with front t fs (Adds f) no c reads =
+    begin_some (front ++ (t ∷ [])) Outside (fs ++ (f ∷ [])) (λ ts. ap (run Outside []) (append_assoc front (t ∷ []) ts) ∙ reads ts) tt
+begin_with front t fs Fails no c reads = absurd (no refl)
+
+why_refused : (fault : ParseFault) (front : List Token) (t : Token) (focus : UnitFocus) (fs : List FunctionTree) → HasRead front focus fs → CanBe focus →
+    IsStop fault t (unit_step t.kind t.pos focus) → IsFaultOf fault front t
+why_refused (Unexpected pos) front t focus fs reads c s = (s.0, s.1, begin_none front t focus fs reads s.2)
+why_refused (Subset pos) front t focus fs reads c s = (s.0, s.1, begin_none front t focus fs reads s.2)
+why_refused (TooDeep pos) front t focus fs reads c s =
+    (s.0, begin_with front t fs (unit_step t.kind t.pos focus) s.1 (unit_follows t.kind t.pos focus c) (λ ts. reads (t ∷ ts)))
+why_refused Memory front t focus fs reads c s = tt
 
 pub refused_at : (tokens : List Token) (i : ℕ) (t : Token) (focus : UnitFocus) (fs : List FunctionTree) (fault : ParseFault) → i < length tokens → t ≡ get_or tokens i t →
-    HasRead (take i tokens) focus fs → IsStop fault t focus fs → IsRefused fault tokens
-refused_at tokens i t focus fs fault h is reads stop = record {
+    HasRead (take i tokens) focus fs → CanBe focus → IsStop fault t (unit_step t.kind t.pos focus) → IsRefused fault tokens
+refused_at tokens i t focus fs fault h is reads c stop = record {
   before = take i tokens;
   token = t;
   behind = drop (suc i) tokens;
   whole = sym (take-append-drop i tokens) ∙ ap (λ x. take i tokens ++ x) (drop-cons tokens i t h ∙ ap (λ x. x ∷ drop (suc i) tokens) (sym is));
-  why = why_refused fault (take i tokens) t focus fs reads stop;
+  goes_on = begin_some (take i tokens) focus fs reads c;
+  why = why_refused fault (take i tokens) t focus fs reads c stop;
 }
 
 pub never_unended : (tokens : List Token) (focus : UnitFocus) → HasEnded tokens focus → ((fs : List FunctionTree) → ended focus fs ≡ None) → AreEnded tokens → ⊥

@@ -1,10 +1,10 @@
-ghost use Rattle.std.specs.Prelude.{◌≡◌, [], ◌∷◌, List, Some, None, map, if◌then◌else◌, IfOk, IfErr};
+ghost use Rattle.std.specs.Prelude.{◌≡◌, [], List, Some, None, map, if◌then◌else◌, IfOk, IfErr};
 ghost use Rattle.ocl_ast.specs.Shapes.{function_tree, unit_trees};
 ghost use Rattle.ocl_ast.specs.Trees.{FunctionTree};
-ghost use Rattle.ocl_tokens.specs.declared.tokens.Token.{Token};
-ghost use Rattle.ocl_parser.specs.Faults.{AreEnded, is_left_out, IsRefused, IsRefusalOf, IsStop};
+ghost use Rattle.ocl_parser.specs.Faults.{AreEnded, is_left_out, IsRefused, IsRefusalOf, IsStep, IsStop};
 ghost use Rattle.ocl_parser.specs.Runs.{run, ended};
 ghost use Rattle.ocl_parser.specs.Units.{Derives};
+ghost use Rattle.ocl_parser.specs.UnitSteps.{unit_step};
 
 use crate::limits::is_within;
 use crate::moves::UnitMove;
@@ -74,16 +74,15 @@ fn is_ended(focus: &UnitFocus) -> bool
 }
 
 /// Reads a token, which may end a function.
-#[tactic(auto, using(crate::proofs::RunSteps::reads_on, crate::proofs::RunSteps::adds_on, crate::proofs::RunSteps::stops_on, crate::proofs::EndSteps::end_reads, crate::proofs::EndSteps::end_adds))]
+#[tactic(auto, using(crate::proofs::RunSteps::step_reads, crate::proofs::RunSteps::step_adds, crate::proofs::RunSteps::stops_on, crate::proofs::RunSteps::too_deep))]
 fn read_token(
     alloc: Global,
     token: &Token,
     focus: UnitFocus,
     functions: &mut FunctionList,
 ) -> Result<UnitFocus, ParseFault>
-    ensures goes { IfOk result (λ next. (ts : List Token) → run focus (map function_tree functions.old) (token.now ∷ ts) ≡ run next (map function_tree functions.new) ts) }
-    ensures at_end { IfOk result (λ next. token.now.kind ≡ TokenKind.End → next ≡ UnitFocus.AtEnd) }
-    ensures stops { IfErr result (λ fault. IsStop fault token.now focus (map function_tree functions.old)) }
+    ensures goes { IfOk result (λ next. IsStep (unit_step token.now.kind token.now.pos focus) next (map function_tree functions.old) (map function_tree functions.new)) }
+    ensures stops { IfErr result (λ fault. IsStop fault token.now (unit_step token.now.kind token.now.pos focus)) }
 {
     match unit_step(alloc, &token.kind, token.pos, focus) {
         Err(_memory) => Err(ParseFault::Memory),

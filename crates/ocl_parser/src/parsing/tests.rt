@@ -277,28 +277,26 @@ fn limits(rt: HostRuntime) -> Result<(), Fail> {
             "{before}"
         );
     }
-    for (before, most, after, late) in [
-        ("( ", 127, "b ", 0),
-        ("- ", 127, "b ", 0),
-        ("b - ( ", 63, "b - b ", 1),
-        ("b ? c : ", 127, "b ", 1),
-        ("f ( ", 127, "f ( ", 1),
+    for (before, most, after, col) in [
+        ("( ", 127, "b ", 8 + 128),
+        ("- ", 127, "b ", 8 + 128),
+        ("b - ( ", 63, "b - b ", 8 + 3 * 64),
+        ("b ? c : ", 127, "b ", 8 + 4 * 127 + 2),
+        ("f ( ", 127, "f ( ", 8 + 2 * 128 + 1),
     ] {
         let inner = repeated(alloc, before, most, after)?;
         let text = format!(in alloc; "a = {inner}")?;
         let body = body_of(alloc, text.as_str())?;
         let fault = fault_of(alloc, body.as_str())?;
-        assert!(rt;
-            !matches!(fault, Some(ParseFault::TooDeep(_))),
-            "{before} {fault:?} {late}"
-        );
+        assert!(rt; !matches!(fault, Some(ParseFault::TooDeep(_))), "{before}");
         let deeper = repeated(alloc, before, most.saturating_add(1), after)?;
         let text = format!(in alloc; "a = {deeper}")?;
         let body = body_of(alloc, text.as_str())?;
-        let fault = fault_of(alloc, body.as_str())?;
-        assert!(rt;
-            matches!(fault, Some(ParseFault::TooDeep(_))),
-            "{before} {fault:?}"
+        let pos = Pos { line: 1, col };
+        assert_eq!(rt;
+            fault_of(alloc, body.as_str())?,
+            Some(ParseFault::TooDeep(pos)),
+            "{before}"
         );
     }
     Ok(())
