@@ -42,10 +42,13 @@ none_read rest c (t ∷ ts) h = inl h
 pub unqualified : (rest : Bool → Rest) (c : Bool) → Leads (rest c) (qualifiers c rest)
 unqualified rest c = record { by = none_read rest c }
 
+none_so : (both : Bool) (rest : Rest) (c : Bool) (ts : List Token) → c ≡ both → rest ts → qualifiers c (λ d. given (d ≡ both) rest) ts
+none_so both rest c ts e h = none_read (λ d. given (d ≡ both) rest) c ts (e, h)
+
 const_read : (rest : Rest) (c both : Bool) (ts : List Token) →
     qualifiers c (λ d. given (d ≡ both) (word Const rest)) ts → qualifiers c (λ d. given (d ≡ true) rest) ts
 const_read rest c both [] h = absurd h.1
-const_read rest c both (t ∷ ts) (inl h) = inr (inl (h.1.0, none_read _ true ts (refl, h.1.1)))
+const_read rest c both (t ∷ ts) (inl h) = inr (inl (h.1.0, none_so true rest true ts refl h.1.1))
 const_read rest c both (t ∷ ts) (inr (inl h)) = inr (inl (h.0, const_read rest true both ts h.1))
 const_read rest c both (t ∷ ts) (inr (inr h)) = inr (inr (h.0, const_read rest c both ts h.1))
 
@@ -55,7 +58,7 @@ const_last c both rest = record { by = const_read rest c both }
 volatile_read : (rest : Rest) (c both : Bool) (ts : List Token) →
     qualifiers c (λ d. given (d ≡ both) (word Volatile rest)) ts → qualifiers c (λ d. given (d ≡ both) rest) ts
 volatile_read rest c both [] h = absurd h.1
-volatile_read rest c both (t ∷ ts) (inl h) = inr (inr (h.1.0, none_read _ c ts (h.0, h.1.1)))
+volatile_read rest c both (t ∷ ts) (inl h) = inr (inr (h.1.0, none_so both rest c ts h.0 h.1.1))
 volatile_read rest c both (t ∷ ts) (inr (inl h)) = inr (inl (h.0, volatile_read rest true both ts h.1))
 volatile_read rest c both (t ∷ ts) (inr (inr h)) = inr (inr (h.0, volatile_read rest c both ts h.1))
 
@@ -64,10 +67,10 @@ pub volatile_last : (c both : Bool) (rest : Rest) →
 volatile_last c both rest = record { by = volatile_read rest c both }
 
 behind_words : (constant before : Bool) (rest : Rest) → before ≡ constant → Leads rest (qualifiers before (λ both. given (both ≡ constant) rest))
-behind_words constant before rest e = record { by = λ ts h. none_read (λ both. given (both ≡ constant) rest) before ts (e, h) }
+behind_words constant before rest e = record { by = λ ts h. none_so constant rest before ts e h }
 
 pub untyped : (rest : Rest) → Leads rest (type_words false [] rest)
-untyped rest = record { by = λ ts h. none_read (λ before. given (before ≡ false) rest) false ts (refl, h) }
+untyped rest = record { by = λ ts h. none_so false rest false ts refl h }
 
 -- the words of a scalar type are a type, where no qualifiers stand behind
 pub typed : (constant : Bool) (s : Scalar) (rest : Rest) → Leads (type_words constant (scalar_words s) rest) (declared_type (scalar_elem s) constant rest)
@@ -155,7 +158,7 @@ with_local done elem n count rest = with_last done (LocalArrayTree elem n count)
 names_last : (elem : Elem) (constant : Bool) (names : StmtTrees) (n : Ident) (value : Option ExprTree) (rest : Rest) →
     Leads (more_names_text elem constant names (mark Comma (declarator_text n value rest)))
     (more_names_text elem constant (and_stmt names (DeclareTree elem constant n value)) rest)
-names_last elem constant NoStmts n value rest = record { by = λ ts h. (refl, refl, h) }
+names_last elem constant NoStmts n value rest = record { by = λ ts h. (refl, (refl, h)) }
 names_last elem constant (AndStmt (DeclareTree elem' constant' n' value') ss) n value rest =
     given_mono _ (given_mono _ (one_mono _ (declarator_mono n' value' (names_last elem constant ss n value rest))))
 names_last elem constant (AndStmt _ ss) n value rest = nothing

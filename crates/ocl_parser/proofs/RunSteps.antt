@@ -1,5 +1,5 @@
 -- What a token leaves to the tokens behind it, and what is known of the whole.
-use Rattle.std.proofs.Common.{◌≡◌, ◌<◌, ◌+◌, refl, sym, ap, subst, ◌∙◌, arith, Bool, true, false, ℕ, List, [], ◌∷◌, ◌++◌, map, reverse, length, get_or, take, drop, append_assoc, Option, Some, None}
+use Rattle.std.proofs.Common.{◌≡◌, ◌<◌, ◌+◌, refl, sym, ap, subst, ◌∙◌, arith, Bool, true, false, ℕ, suc, List, [], ◌∷◌, ◌++◌, map, reverse, length, get_or, take, drop, append_assoc, Option, Some, None}
 use Rattle.std.proofs.Math.Seq.{take-suc, take-length, drop-cons}
 use Rattle.std.proofs.lemmas.List.{append-nil, map-append, take-append-drop}
 use Rattle.ocl_ast.specs.Shapes.{function_tree}
@@ -69,17 +69,17 @@ pub none_ended : (focus : UnitFocus) → HasEnded [] focus
 none_ended focus = λ before last e k. absurd (empty_not before last e)
 
 -- one token more
-goes_run : (t : Token) (focus next : UnitFocus) (fs gs : List FunctionTree) (n : UnitNext) → IsStep n next fs gs → (ts : List Token) →
+goes_run : (next : UnitFocus) (fs gs : List FunctionTree) (n : UnitNext) → IsStep n next fs gs → (ts : List Token) →
     go_on n fs (λ f all. run f all ts) ≡ run next gs ts
-goes_run t focus next fs gs (Reads f) s ts = ap (λ x. run x fs ts) (sym s.0) ∙ ap (λ all. run next all ts) (sym s.1)
-goes_run t focus next fs gs (Adds f) s ts = ap (λ x. run x (fs ++ (f ∷ [])) ts) (sym s.0) ∙ ap (λ all. run next all ts) (sym s.1)
-goes_run t focus next fs gs Fails s ts = absurd s
+goes_run next fs gs (Reads f) s ts = ap (λ x. run x fs ts) (sym s.0) ∙ ap (λ all. run next all ts) (sym s.1)
+goes_run next fs gs (Adds f) s ts = ap (λ x. run x (fs ++ (f ∷ [])) ts) (sym s.0) ∙ ap (λ all. run next all ts) (sym s.1)
+goes_run next fs gs Fails s ts = absurd s
 
 pub reads_more : (tokens : List Token) (i : ℕ) (t : Token) (focus next : UnitFocus) (fs gs : List FunctionTree) → i < length tokens → t ≡ get_or tokens i t →
     HasRead (take i tokens) focus fs → IsStep (unit_step t.kind t.pos focus) next fs gs → HasRead (take (i + 1) tokens) next gs
 reads_more tokens i t focus next fs gs h is reads step =
     λ ts. ap (λ front. run Outside [] (front ++ ts)) (one_more tokens i t h is) ∙ ap (run Outside []) (append_assoc (take i tokens) (t ∷ []) ts) ∙ reads (t ∷ ts) ∙
-    goes_run t focus next fs gs (unit_step t.kind t.pos focus) step ts
+    goes_run next fs gs (unit_step t.kind t.pos focus) step ts
 
 end_step : (n : UnitNext) (next : UnitFocus) (fs gs : List FunctionTree) → IsStep n next fs gs → EndsFile n → next ≡ AtEnd
 end_step (Reads f) next fs gs s h = s.0 ∙ h
@@ -119,11 +119,11 @@ begin_none front t focus fs reads stops =
 -- with a token that the reader reads, a file goes on
 begin_with : (front : List Token) (t : Token) (fs : List FunctionTree) (n : UnitNext) → (n ≡ Fails → ⊥) → CanBeNext n →
     ((ts : List Token) → run Outside [] (front ++ (t ∷ ts)) ≡ go_on n fs (λ f all. run f all ts)) → BeginSomeFile (front ++ (t ∷ []))
-begin_with front t fs (Reads f) no c reads =
+begin_with front t fs (Reads f) some c reads =
     begin_some (front ++ (t ∷ [])) f fs (λ ts. ap (run Outside []) (append_assoc front (t ∷ []) ts) ∙ reads ts) c
-begin_with front t fs (Adds f) no c reads =
+begin_with front t fs (Adds f) some c reads =
     begin_some (front ++ (t ∷ [])) Outside (fs ++ (f ∷ [])) (λ ts. ap (run Outside []) (append_assoc front (t ∷ []) ts) ∙ reads ts) tt
-begin_with front t fs Fails no c reads = absurd (no refl)
+begin_with front t fs Fails some c reads = absurd (some refl)
 
 why_refused : (fault : ParseFault) (front : List Token) (t : Token) (focus : UnitFocus) (fs : List FunctionTree) → HasRead front focus fs → CanBe focus →
     IsStop fault t (unit_step t.kind t.pos focus) → IsFaultOf fault front t

@@ -295,8 +295,9 @@ module _ (t : Token) (rest : Rest) where
   behind_number : (kind : TokenKind) → t.kind ≡ kind → (at : Pos) (K : List StmtFrame) →
       Leads (frames_front K (word_at Barrier at (mark OpenParen (one IsNumber (more_numbers_text (after t rest)))))) (next_front (barrier_number kind at K) rest)
   behind_number (MarkKind Bar) h at K =
-      front_mono K (one_mono _ (one_mono _ (then (one_mono _ (numbers_mono (taken t _ h))) right)))
-  behind_number (MarkKind CloseParen) h at K = front_mono K (one_mono _ (one_mono _ (one_mono _ (numbers_mono (taken t _ h)))))
+      front_mono K (one_mono _ (one_mono _ (then (one_mono _ (numbers_mono (taken t (λ u. u.kind ≡ MarkKind Bar) {rest = rest} h))) right)))
+  behind_number (MarkKind CloseParen) h at K =
+      front_mono K (one_mono _ (one_mono _ (one_mono _ (numbers_mono (taken t (λ u. u.kind ≡ MarkKind CloseParen) {rest = rest} h)))))
   behind_number _ h at K = any
 
   -- a token that ends something
@@ -517,13 +518,13 @@ module _ (t : Token) (rest : Rest) where
   else_reads : (kind : TokenKind) → t.kind ≡ kind → (test : ExprTree) (s : StmtTree) (K : List StmtFrame) →
       Leads (whole_front s (ThenFrame test ∷ K) (after t rest)) (next_front (else_step (is_else kind) test s K) rest)
   else_reads (WordKind Else) h test (LocalArrayTree elem n count) K = nothing
-  else_reads (WordKind Else) h test s K = front_mono K (one_mono _ (one_mono _ (expr_mono test (one_mono _ (stmt_mono s (taken t _ h))))))
+  else_reads (WordKind Else) h test s K = front_mono K (one_mono _ (one_mono _ (expr_mono test (one_mono _ (stmt_mono s (taken t (λ u. u.kind ≡ WordKind Else) {rest = rest} h))))))
   else_reads _ h test s K = any
 
   while_reads : (kind : TokenKind) → t.kind ≡ kind → (s : StmtTree) (K : List StmtFrame) →
       Leads (whole_front s (DoFrame ∷ K) (after t rest)) (next_front (while_step kind s K) rest)
   while_reads (WordKind While) h (LocalArrayTree elem n count) K = nothing
-  while_reads (WordKind While) h s K = front_mono K (one_mono _ (stmt_mono s (taken t _ h)))
+  while_reads (WordKind While) h s K = front_mono K (one_mono _ (stmt_mono s (taken t (λ u. u.kind ≡ WordKind While) {rest = rest} h)))
   while_reads _ h s K = any
 
   placed_reads : (kind : TokenKind) → t.kind ≡ kind → (s : StmtTree) (K : List StmtFrame) →

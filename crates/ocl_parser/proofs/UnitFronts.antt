@@ -192,14 +192,18 @@ no_word : (a : Option Space → Bool → Rest) (s : Option Space) (c : Bool) (ts
 no_word a s c [] h = h
 no_word a s c (t ∷ ts) h = inl h
 
+no_word_so : (space : Option Space) (constant : Bool) (rest : Rest) (s : Option Space) (c : Bool) (ts : List Token) → s ≡ space → c ≡ constant → rest ts →
+    before_text s c (λ p d. given (p ≡ space) (given (d ≡ constant) rest)) ts
+no_word_so space constant rest s c ts e f h = no_word (λ p d. given (p ≡ space) (given (d ≡ constant) rest)) s c ts (e, (f, h))
+
 pub no_words : (rest : Rest) → Leads rest (param_words None false rest)
-no_words rest = record { by = λ ts h. no_word (λ s c. given (s ≡ None) (given (c ≡ false) rest)) None false ts (refl, (refl, h)) }
+no_words rest = record { by = λ ts h. no_word_so None false rest None false ts refl refl h }
 
 const_read : (rest : Rest) (space : Option Space) (constant : Bool) (s : Option Space) (c : Bool) (ts : List Token) →
     before_text s c (λ s c. given (s ≡ space) (given (c ≡ constant) (word Const rest))) ts →
     before_text s c (λ s c. given (s ≡ space) (given (c ≡ true) rest)) ts
 const_read rest space constant s c [] h = absurd h.1.1
-const_read rest space constant s c (t ∷ ts) (inl h) = inr (inl (h.1.1.0, no_word _ s true ts (h.0, (refl, h.1.1.1))))
+const_read rest space constant s c (t ∷ ts) (inl h) = inr (inl (h.1.1.0, no_word_so space true rest s true ts h.0 refl h.1.1.1))
 const_read rest space constant s c (t ∷ ts) (inr (inl h)) = inr (inl (h.0, const_read rest space constant s true ts h.1))
 const_read rest space constant s c (t ∷ ts) (inr (inr (inl h))) = inr (inr (inl (h.0, const_read rest space constant s c ts h.1)))
 const_read rest space constant s c (t ∷ ts) (inr (inr (inr h))) = inr (inr (inr (h.0, h.1, h.2, const_read rest space constant (Some h.1) c ts h.3)))
@@ -211,7 +215,7 @@ volatile_read : (rest : Rest) (space : Option Space) (constant : Bool) (s : Opti
     before_text s c (λ s c. given (s ≡ space) (given (c ≡ constant) (word Volatile rest))) ts →
     before_text s c (λ s c. given (s ≡ space) (given (c ≡ constant) rest)) ts
 volatile_read rest space constant s c [] h = absurd h.1.1
-volatile_read rest space constant s c (t ∷ ts) (inl h) = inr (inr (inl (h.1.1.0, no_word _ s c ts (h.0, (h.1.0, h.1.1.1)))))
+volatile_read rest space constant s c (t ∷ ts) (inl h) = inr (inr (inl (h.1.1.0, no_word_so space constant rest s c ts h.0 h.1.0 h.1.1.1)))
 volatile_read rest space constant s c (t ∷ ts) (inr (inl h)) = inr (inl (h.0, volatile_read rest space constant s true ts h.1))
 volatile_read rest space constant s c (t ∷ ts) (inr (inr (inl h))) = inr (inr (inl (h.0, volatile_read rest space constant s c ts h.1)))
 volatile_read rest space constant s c (t ∷ ts) (inr (inr (inr h))) = inr (inr (inr (h.0, h.1, h.2, volatile_read rest space constant (Some h.1) c ts h.3)))
@@ -223,7 +227,7 @@ space_read : (rest : Rest) (space : Space) (constant : Bool) (s : Option Space) 
     before_text s c (λ s c. given (s ≡ None) (given (c ≡ constant) (one (IsSpaceWord space) rest))) ts →
     before_text s c (λ s c. given (s ≡ Some space) (given (c ≡ constant) rest)) ts
 space_read rest space constant s c [] h = absurd h.1.1
-space_read rest space constant s c (t ∷ ts) (inl h) = inr (inr (inr (h.0, space, h.1.1.0, no_word _ (Some space) c ts (refl, (h.1.0, h.1.1.1)))))
+space_read rest space constant s c (t ∷ ts) (inl h) = inr (inr (inr (h.0, space, h.1.1.0, no_word_so (Some space) constant rest (Some space) c ts refl h.1.0 h.1.1.1)))
 space_read rest space constant s c (t ∷ ts) (inr (inl h)) = inr (inl (h.0, space_read rest space constant s true ts h.1))
 space_read rest space constant s c (t ∷ ts) (inr (inr (inl h))) = inr (inr (inl (h.0, space_read rest space constant s c ts h.1)))
 space_read rest space constant s c (t ∷ ts) (inr (inr (inr h))) = inr (inr (inr (h.0, h.1, h.2, space_read rest space constant (Some h.1) c ts h.3)))
@@ -236,13 +240,16 @@ no_behind : (a : Bool → Rest) (c : Bool) (ts : List Token) → a c ts → behi
 no_behind a c [] h = h
 no_behind a c (t ∷ ts) h = inl h
 
+no_behind_so : (constant : Bool) (rest : Rest) (c : Bool) (ts : List Token) → c ≡ constant → rest ts → behind_text c (λ fixed. given (fixed ≡ constant) rest) ts
+no_behind_so constant rest c ts e h = no_behind (λ fixed. given (fixed ≡ constant) rest) c ts (e, h)
+
 pub none_behind : (rest : Rest) → Leads rest (behind_text false (λ fixed. given (fixed ≡ false) rest))
-none_behind rest = record { by = λ ts h. no_behind (λ fixed. given (fixed ≡ false) rest) false ts (refl, h) }
+none_behind rest = record { by = λ ts h. no_behind_so false rest false ts refl h }
 
 fixed_read : (rest : Rest) (constant c : Bool) (ts : List Token) →
     behind_text c (λ fixed. given (fixed ≡ constant) (word Const rest)) ts → behind_text c (λ fixed. given (fixed ≡ true) rest) ts
 fixed_read rest constant c [] h = absurd h.1
-fixed_read rest constant c (t ∷ ts) (inl h) = inr (inl (h.1.0, no_behind _ true ts (refl, h.1.1)))
+fixed_read rest constant c (t ∷ ts) (inl h) = inr (inl (h.1.0, no_behind_so true rest true ts refl h.1.1))
 fixed_read rest constant c (t ∷ ts) (inr (inl h)) = inr (inl (h.0, fixed_read rest constant true ts h.1))
 fixed_read rest constant c (t ∷ ts) (inr (inr h)) = inr (inr (h.0, fixed_read rest constant c ts h.1))
 
@@ -256,7 +263,7 @@ IsPointerWord t = (t.kind ≡ WordKind Restrict) ⊎ (t.kind ≡ WordKind Volati
 other_read : (rest : Rest) (constant c : Bool) (ts : List Token) →
     behind_text c (λ fixed. given (fixed ≡ constant) (one IsPointerWord rest)) ts → behind_text c (λ fixed. given (fixed ≡ constant) rest) ts
 other_read rest constant c [] h = absurd h.1
-other_read rest constant c (t ∷ ts) (inl h) = inr (inr (h.1.0, no_behind _ c ts (h.0, h.1.1)))
+other_read rest constant c (t ∷ ts) (inl h) = inr (inr (h.1.0, no_behind_so constant rest c ts h.0 h.1.1))
 other_read rest constant c (t ∷ ts) (inr (inl h)) = inr (inl (h.0, other_read rest constant true ts h.1))
 other_read rest constant c (t ∷ ts) (inr (inr h)) = inr (inr (h.0, other_read rest constant c ts h.1))
 

@@ -93,6 +93,9 @@ star_whole : (n : Ident) (kind : ParamKind) (constant : Bool) (rest : Rest) →
 star_whole n (ScalarKind elem) constant rest = nothing
 star_whole n (Pointer space elem readonly) constant rest = starred_whole n space elem readonly constant rest
 
+spelled : (s : Scalar) (rest : Rest) → Leads (words (scalar_words s) rest) (scalar (scalar_elem s) rest)
+spelled s rest = record { by = λ ts x. (s, refl, x) }
+
 module _ (t : Token) (rest : Rest) (fs : List FunctionTree) where
   -- the head
   gives_reads : (w : Word) → t.kind ≡ WordKind w → (ws : List Word) (o : Option Scalar) → scalar_made o ws w →
@@ -133,7 +136,7 @@ module _ (t : Token) (rest : Rest) (fs : List FunctionTree) where
       Leads (functions_text fs (helper_words_text (words (scalar_words s) (after t rest)))) (unit_next_front fs (gives_step kind t.pos s) rest)
   gives_step_reads (WordKind w) h s = gives_reads w h (scalar_words s) (scalar_more s w) (more_words s w)
   gives_step_reads kind h s =
-      then (functions_mono fs (helper_mono (record { by = λ ts x. (s, refl, x) }))) (head_reads kind h false (Value (scalar_elem s)))
+      then (functions_mono fs (helper_mono (spelled s (after t rest)))) (head_reads kind h false (Value (scalar_elem s)))
 
   named_reads : (kind : TokenKind) → t.kind ≡ kind → (head : Head) →
       Leads (functions_text fs (head_front head (after t rest))) (unit_next_front fs (named_head kind head) rest)
