@@ -1,6 +1,7 @@
 use super::*;
 use ocl_ast::{BinOp, Expr, Stmt};
 use ocl_tokens::{LeftOut, Mark};
+use std::alloc::AllocError;
 use std::test::Fail;
 use vx_base::Text;
 
@@ -183,6 +184,8 @@ fn statements_that_are_read(rt: HostRuntime) -> Result<(), Fail> {
         "a = - + ! ~ b ; a = ( int ) b ; a = ( unsigned short int ) - ( b ) ; a = ( uchar ) ( int ) b ;",
         "a = b ? c : d ? e : f ; a = b ? c ? d : e : f ; a = b || c && d | e ^ f & g == h != i < j > k <= l >= m << n >> o + p - q * r / s % t ;",
         "a = f ( ) ; a = f ( b , c ) - g [ d ] ;",
+        "char a ; signed char b ; unsigned char c ; uchar d ; short e ; short int f ; signed short g ; signed short int h ; unsigned short i ;",
+        "unsigned short int a ; ushort b ; int c ; signed int d ; signed e ; unsigned int f ; unsigned g ; uint h ; size_t i ;",
     ] {
         let body = body_of(alloc, text)?;
         assert_eq!(rt; fault_of(alloc, body.as_str())?, None);
@@ -227,6 +230,10 @@ fn refusals(rt: HostRuntime) -> Result<(), Fail> {
         ("void f ( ) { switch ( a ) { } }", 6, true),
         ("void f ( ) { goto a ; }", 6, true),
         ("void f ( ) { int a = long ; }", 9, true),
+        ("void f ( ) { int goto ; }", 7, true),
+        ("void f ( ) { a = b float ; }", 9, true),
+        ("void f ( ) { char int a ; }", 7, false),
+        ("void f ( ) { uint int a ; }", 7, false),
         ("void f ( ) { int a ; } long", 10, true),
     ] {
         let pos = Pos { line: 1, col };
@@ -254,12 +261,12 @@ fn repeated(alloc: Global, before: &str, count: usize, after: &str) -> Result<St
 fn limits(rt: HostRuntime) -> Result<(), Fail> {
     let alloc = rt.alloc();
     for (before, most, after, col) in [
-        ("if ( 1 ) ", 30, "a = 1 ; ", 6 + 4 * 30),
-        ("while ( 1 ) ", 30, "; ", 6 + 4 * 30),
-        ("do ", 30, "", 6 + 30),
-        ("for ( ; ; ) ", 30, "{ ; } ", 6 + 5 * 30),
-        ("{ ", 30, "", 6 + 30),
-        ("if ( 1 ) { ", 30, "", 6 + 5 * 30),
+        ("if ( 1 ) ", 30usize, "a = 1 ; ", 7 + 4 * 30),
+        ("while ( 1 ) ", 30, "; ", 7 + 4 * 30),
+        ("do ", 30, "", 7 + 30),
+        ("for ( ; ; ) ", 30, "{ ; } ", 7 + 5 * 30),
+        ("{ ", 30, "", 7 + 30),
+        ("if ( 1 ) { ", 30, "", 7 + 5 * 30),
     ] {
         let inner = repeated(alloc, before, most, after)?;
         let body = body_of(alloc, inner.as_str())?;
@@ -267,10 +274,7 @@ fn limits(rt: HostRuntime) -> Result<(), Fail> {
         assert!(rt; !matches!(fault, Some(ParseFault::TooDeep(_))), "{before}");
         let deeper = repeated(alloc, before, most.saturating_add(1), after)?;
         let body = body_of(alloc, deeper.as_str())?;
-        let pos = Pos {
-            line: 1,
-            col: col.saturating_add(1),
-        };
+        let pos = Pos { line: 1, col };
         assert_eq!(rt;
             fault_of(alloc, body.as_str())?,
             Some(ParseFault::TooDeep(pos)),
@@ -278,7 +282,7 @@ fn limits(rt: HostRuntime) -> Result<(), Fail> {
         );
     }
     for (before, most, after, col) in [
-        ("( ", 127, "b ", 8 + 128),
+        ("( ", 127usize, "b ", 8 + 128),
         ("- ", 127, "b ", 8 + 128),
         ("b - ( ", 63, "b - b ", 8 + 3 * 64),
         ("b ? c : ", 127, "b ", 8 + 4 * 127 + 2),
