@@ -1,5 +1,5 @@
 -- What a token leaves to the tokens behind it, and what is known of the whole.
-use Rattle.std.proofs.Common.{◌≡◌, ◌<◌, ◌+◌, refl, sym, ap, subst, ◌∙◌, arith, Bool, true, false, ℕ, suc, List, [], ◌∷◌, ◌++◌, map, reverse, length, get_or, take, drop, append_assoc, Option, Some, None}
+use Rattle.std.proofs.Common.{◌≡◌, ◌<◌, ◌≤◌, ◌+◌, refl, sym, ap, subst, ◌∙◌, arith, Bool, true, false, ℕ, suc, List, [], ◌∷◌, ◌++◌, map, reverse, length, get_or, take, drop, append_assoc, Option, Some, None}
 use Rattle.std.proofs.Math.Seq.{take-suc, take-length, drop-cons}
 use Rattle.std.proofs.lemmas.List.{append-nil, map-append, take-append-drop}
 use Rattle.ocl_ast.specs.Shapes.{function_tree}
@@ -144,16 +144,19 @@ refused_at tokens i t focus fs fault h is reads c stop = record {
   why = why_refused fault (take i tokens) t focus fs reads c stop;
 }
 
-pub never_unended : (tokens : List Token) (focus : UnitFocus) → HasEnded tokens focus → ((fs : List FunctionTree) → ended focus fs ≡ None) → AreEnded tokens → ⊥
-never_unended tokens focus at over e = none_some (sym (over []) ∙ ap (λ f. ended f []) (at e.0 e.1 e.2 e.3))
+-- all tokens
+all_tokens : (tokens : List Token) (i : ℕ) → length tokens ≤ i → i ≤ length tokens → take i tokens ≡ tokens
+all_tokens tokens i low high = let e : i ≡ length tokens = omega arith in ap (λ k. take k tokens) e ∙ take-length tokens
 
-pub read_whole : (tokens : List Token) (focus : UnitFocus) (fs : List FunctionTree) → HasRead (take (length tokens) tokens) focus fs → ended focus fs ≡ Some fs →
-    run Outside [] tokens ≡ Some fs
-read_whole tokens focus fs reads e =
-    ap (run Outside []) (sym (append-nil tokens) ∙ ap (λ front. front ++ []) (sym (take-length tokens))) ∙ reads [] ∙ e
+pub never_unended : (tokens : List Token) (i : ℕ) (focus : UnitFocus) → length tokens ≤ i → i ≤ length tokens → HasEnded (take i tokens) focus →
+    ((fs : List FunctionTree) → ended focus fs ≡ None) → AreEnded tokens → ⊥
+never_unended tokens i focus low high at over e =
+    none_some (sym (over []) ∙ ap (λ f. ended f []) (at e.0 e.1 (all_tokens tokens i low high ∙ e.2) e.3))
+
+pub read_whole : (tokens : List Token) (i : ℕ) (focus : UnitFocus) (fs : List FunctionTree) → length tokens ≤ i → i ≤ length tokens → HasRead (take i tokens) focus fs →
+    ended focus fs ≡ Some fs → run Outside [] tokens ≡ Some fs
+read_whole tokens i focus fs low high reads e =
+    ap (run Outside []) (sym (append-nil tokens) ∙ ap (λ front. front ++ []) (sym (all_tokens tokens i low high))) ∙ reads [] ∙ e
 
 pub read_is : (tokens : List Token) (gs : List FunctionTree) → run Outside [] tokens ≡ Some gs → (fs : List FunctionTree) → Derives tokens fs → gs ≡ fs
 read_is tokens gs e fs d = some_inj (sym e ∙ unit_complete tokens fs d)
-
-pub read_derives : (tokens : List Token) (gs : List FunctionTree) → run Outside [] tokens ≡ Some gs → Derives tokens gs
-read_derives tokens gs e = run_derives tokens gs e

@@ -29,7 +29,7 @@ pub enum ParseFault {
 }
 
 /// The functions of a file's tokens.
-#[tactic(auto, using(crate::proofs::RunSteps::read_derives, crate::proofs::RunSteps::read_is))]
+#[tactic(auto, using(crate::proofs::RunSteps::read_is))]
 pub fn parse(alloc: Global, tokens: &Tokens) -> Result<Unit, ParseFault>
     ensures derives { IfOk result (λ unit. Derives tokens.now (unit_trees unit)) }
     ensures alone { IfOk result (λ unit. (fs : List FunctionTree) → Derives tokens.now fs → unit_trees unit ≡ fs) }
@@ -40,6 +40,7 @@ pub fn parse(alloc: Global, tokens: &Tokens) -> Result<Unit, ParseFault>
 }
 
 /// The functions that the reader makes of the tokens.
+#[tactic(auto, using(crate::proofs::RunSteps::none_ended))]
 fn read_all(alloc: Global, tokens: &[Token]) -> Result<FunctionList, ParseFault>
     ensures functions { IfOk result (λ functions. run UnitFocus.Outside [] tokens.now ≡ Some (map function_tree functions)) }
     ensures refused { IfErr result (λ fault. AreEnded tokens.now → IsRefused fault tokens.now) }
