@@ -24,3 +24,4 @@ pub mod EndSteps
 pub mod Closing
 pub mod Follow
 pub mod UnitClosing
+pub mod StartLaws

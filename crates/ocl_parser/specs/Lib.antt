@@ -10,3 +10,4 @@ pub mod UnitSteps
 pub mod Moves
 pub mod Runs
 pub mod Faults
+pub mod Starts

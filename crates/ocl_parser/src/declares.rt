@@ -123,6 +123,7 @@ pub fn name_step(
 }
 
 /// A `;` or `,` behind a name of a declaration with its first value or none.
+#[tactic(auto, using(crate::proofs::StartLaws::never_declared))]
 pub fn declared_end(
     kind: &TokenKind,
     part: Part,
@@ -134,19 +135,35 @@ pub fn declared_end(
     ensures { IfOk result (λ next. stmt_next next frames.new ≡ declared_end kind.now part elem constant statement frames.old) }
 {
     match part {
-        Part::InBlock => match kind {
-            TokenKind::Mark(Mark::Semicolon) => {
-                frames.push_item(statement)?;
-                Ok(StmtMove::On(StmtFocus::ItemStart))
-            }
-            TokenKind::Mark(Mark::Comma) => {
-                frames.push_item(statement)?;
-                Ok(StmtMove::On(StmtFocus::NameNext(Part::InBlock, elem, constant)))
-            }
-            _ => Ok(StmtMove::Refused),
-        },
-        Part::InFirst(done) => declared_first(kind, done, elem, constant, statement),
+        Part::InBlock => declared_item(kind, elem, constant, statement, frames),
+        Part::InFirst(done) => {
+            let moved = declared_first(kind, done, elem, constant, statement)?;
+            Ok(moved)
+        }
         Part::InStep(..) => Ok(StmtMove::Refused),
+    }
+}
+
+/// The same in a block.
+fn declared_item(
+    kind: &TokenKind,
+    elem: Elem,
+    constant: bool,
+    statement: Statement,
+    frames: &mut StmtFrames,
+) -> Result<StmtMove, Memory>
+    ensures { IfOk result (λ next. stmt_next next frames.new ≡ declared_end kind.now Part.InBlock elem constant statement frames.old) }
+{
+    match kind {
+        TokenKind::Mark(Mark::Semicolon) => {
+            frames.push_item(statement)?;
+            Ok(StmtMove::On(StmtFocus::ItemStart))
+        }
+        TokenKind::Mark(Mark::Comma) => {
+            frames.push_item(statement)?;
+            Ok(StmtMove::On(StmtFocus::NameNext(Part::InBlock, elem, constant)))
+        }
+        _ => Ok(StmtMove::Refused),
     }
 }
 

@@ -2,6 +2,7 @@ ghost use Rattle.std.specs.Prelude.{◌≡◌, List, IfOk};
 ghost use Rattle.ocl_parser.specs.declared.states.StmtFrame.{StmtFrame};
 ghost use Rattle.ocl_parser.specs.Moves.{stmt_next};
 ghost use Rattle.ocl_parser.specs.StmtSteps.{begun, begin_step, call_open, barrier_open, barrier_number, open_step, ending_step, first_start, test_start, step_start, returning_step};
+ghost use Rattle.ocl_parser.specs.Starts.{is_closing, is_semicolon, first_part};
 
 use crate::assigns::assign_start;
 use crate::declares::qualified_word;
@@ -32,14 +33,37 @@ fn begin_step(
 }
 
 /// A token behind a name and `(`, where a statement stands.
+#[tactic(auto, using(crate::proofs::StartLaws::call_closed, crate::proofs::Heads::call_goes))]
 pub fn call_open(alloc: Global, kind: &TokenKind, pos: Pos, name: Ident) -> Result<StmtMove, Memory>
     ensures { IfOk result (λ moved. (K : List StmtFrame) → stmt_next moved K ≡ call_open kind.now pos name K) }
 {
-    if let TokenKind::Mark(Mark::CloseParen) = kind {
+    if is_closing(kind) {
         let call = Statement::call(name, Args::new(alloc));
-        return Ok(StmtMove::On(StmtFocus::Ending(call)));
+        Ok(StmtMove::On(StmtFocus::Ending(call)))
+    } else {
+        let moved = begin_step(alloc, kind, pos, Purpose::ArgsOf(name, Args::new(alloc)))?;
+        Ok(moved)
     }
-    begin_step(alloc, kind, pos, Purpose::ArgsOf(name, Args::new(alloc)))
+}
+
+/// Whether a token is `)`.
+fn is_closing(kind: &TokenKind) -> bool
+    ensures { result ≡ is_closing kind.now }
+{
+    match kind {
+        TokenKind::Mark(Mark::CloseParen) => true,
+        _ => false,
+    }
+}
+
+/// Whether a token is `;`.
+fn is_semicolon(kind: &TokenKind) -> bool
+    ensures { result ≡ is_semicolon kind.now }
+{
+    match kind {
+        TokenKind::Mark(Mark::Semicolon) => true,
+        _ => false,
+    }
 }
 
 /// A number of a barrier.
@@ -86,22 +110,40 @@ pub fn ending_step(kind: &TokenKind, statement: Statement) -> StmtMove
 }
 
 /// The first token of a `for`'s first part, or its `;`.
+#[tactic(auto, using(crate::proofs::StartLaws::first_empty, crate::proofs::Heads::first_goes))]
 pub fn first_start(alloc: Global, kind: &TokenKind, pos: Pos) -> Result<StmtMove, Memory>
     ensures { IfOk result (λ moved. (K : List StmtFrame) → stmt_next moved K ≡ first_start kind.now pos K) }
 {
+    let none = Statements::new(alloc);
+    if is_semicolon(kind) {
+        Ok(StmtMove::On(StmtFocus::TestStart(none)))
+    } else {
+        let moved = first_part(alloc, kind, pos, Part::InFirst(none))?;
+        Ok(moved)
+    }
+}
+
+/// The first token of a declaration or an assignment.
+#[tactic(auto, using(crate::proofs::StartLaws::not_word))]
+fn first_part(
+    alloc: Global,
+    kind: &TokenKind,
+    pos: Pos,
+    part: Part,
+) -> Result<StmtMove, Memory>
+    ensures { IfOk result (λ moved. (K : List StmtFrame) → stmt_next moved K ≡ first_part kind.now pos part K) }
+{
     match kind {
-        TokenKind::Mark(Mark::Semicolon) => {
-            Ok(StmtMove::On(StmtFocus::TestStart(Statements::new(alloc))))
+        TokenKind::Word(word) => Ok(qualified_word(*word, part, false)),
+        _ => {
+            let moved = assign_start(alloc, kind, pos, part)?;
+            Ok(moved)
         }
-        TokenKind::Word(word) => {
-            let part = Part::InFirst(Statements::new(alloc));
-            Ok(qualified_word(*word, part, false))
-        }
-        _ => assign_start(alloc, kind, pos, Part::InFirst(Statements::new(alloc))),
     }
 }
 
 /// The first token of a `for`'s test, or its `;`.
+#[tactic(auto, using(crate::proofs::StartLaws::test_empty, crate::proofs::Heads::test_goes))]
 pub fn test_start(
     alloc: Global,
     kind: &TokenKind,
@@ -110,10 +152,12 @@ pub fn test_start(
 ) -> Result<StmtMove, Memory>
     ensures { IfOk result (λ moved. (K : List StmtFrame) → stmt_next moved K ≡ test_start kind.now pos first K) }
 {
-    if let TokenKind::Mark(Mark::Semicolon) = kind {
-        return Ok(StmtMove::On(StmtFocus::StepStart(first, None)));
+    if is_semicolon(kind) {
+        Ok(StmtMove::On(StmtFocus::StepStart(first, None)))
+    } else {
+        let moved = begin_step(alloc, kind, pos, Purpose::ForTest(first))?;
+        Ok(moved)
     }
-    begin_step(alloc, kind, pos, Purpose::ForTest(first))
 }
 
 /// The first token of a `for`'s last part, or its `)`.
@@ -136,6 +180,7 @@ pub fn step_start(
 }
 
 /// A token behind `return`.
+#[tactic(auto, using(crate::proofs::StartLaws::return_empty, crate::proofs::Heads::return_goes))]
 pub fn returning_step(
     alloc: Global,
     kind: &TokenKind,
@@ -144,9 +189,11 @@ pub fn returning_step(
 ) -> Result<StmtMove, Memory>
     ensures { IfOk result (λ moved. (K : List StmtFrame) → stmt_next moved K ≡ returning_step kind.now pos at K) }
 {
-    if let TokenKind::Mark(Mark::Semicolon) = kind {
+    if is_semicolon(kind) {
         let statement = Statement::return_at(None, at);
-        return Ok(StmtMove::On(StmtFocus::Finished(statement)));
+        Ok(StmtMove::On(StmtFocus::Finished(statement)))
+    } else {
+        let moved = begin_step(alloc, kind, pos, Purpose::ReturnOf(at))?;
+        Ok(moved)
     }
-    begin_step(alloc, kind, pos, Purpose::ReturnOf(at))
 }

@@ -1,7 +1,7 @@
 ghost use Rattle.std.specs.Prelude.{◌≡◌, ◌∷◌, List, IfOk};
 ghost use Rattle.ocl_parser.specs.declared.states.StmtFrame.{StmtFrame};
 ghost use Rattle.ocl_parser.specs.Moves.{stmt_next};
-ghost use Rattle.ocl_parser.specs.StmtSteps.{body_word, body_mark, body_step, close_block, close_items, item_scalar, item_word, item_step, finished, finished_step, placed_step, placed, completed, is_else, else_step, while_step};
+ghost use Rattle.ocl_parser.specs.StmtSteps.{Stops, body_word, body_mark, body_step, close_block, close_items, item_scalar, item_word, item_step, finished, finished_step, placed_step, placed, completed, is_else, else_step, while_step};
 
 use crate::assigns::counted_start;
 use crate::moves::StmtMove;
@@ -222,9 +222,16 @@ fn placed_step(
             frames.push(StmtFrame::Block(items))?;
             item_step(alloc, kind, pos, frames)
         }
-        Some(StmtFrame::Else(..)) | Some(StmtFrame::While(_)) | Some(StmtFrame::For(..)) | None =>
-            Ok(StmtMove::Refused),
+        Some(StmtFrame::Else(test, one)) => Ok(refuse_behind(test, one)),
+        Some(StmtFrame::While(_)) | Some(StmtFrame::For(..)) | None => Ok(StmtMove::Refused),
     }
+}
+
+/// The second statement of an `if` ends it, so nothing waits behind it.
+fn refuse_behind(_test: Tree, _one: Statement) -> StmtMove
+    ensures { (K : List StmtFrame) → stmt_next result K ≡ Stops }
+{
+    StmtMove::Refused
 }
 
 /// An `else` behind the first statement of an `if`.
