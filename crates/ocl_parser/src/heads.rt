@@ -33,7 +33,7 @@ fn begin_step(
 }
 
 /// A token behind a name and `(`, where a statement stands.
-#[tactic(auto, using(crate::proofs::StartLaws::call_closed, crate::proofs::Heads::call_goes))]
+#[tactic(auto, using(crate::proofs::StartLaws::call_closed, crate::proofs::StartLaws::call_goes))]
 pub fn call_open(alloc: Global, kind: &TokenKind, pos: Pos, name: Ident) -> Result<StmtMove, Memory>
     ensures { IfOk result (λ moved. (K : List StmtFrame) → stmt_next moved K ≡ call_open kind.now pos name K) }
 {
@@ -110,7 +110,7 @@ pub fn ending_step(kind: &TokenKind, statement: Statement) -> StmtMove
 }
 
 /// The first token of a `for`'s first part, or its `;`.
-#[tactic(auto, using(crate::proofs::StartLaws::first_empty, crate::proofs::Heads::first_goes))]
+#[tactic(auto, using(crate::proofs::StartLaws::first_empty, crate::proofs::StartLaws::first_goes))]
 pub fn first_start(alloc: Global, kind: &TokenKind, pos: Pos) -> Result<StmtMove, Memory>
     ensures { IfOk result (λ moved. (K : List StmtFrame) → stmt_next moved K ≡ first_start kind.now pos K) }
 {
@@ -143,7 +143,7 @@ fn first_part(
 }
 
 /// The first token of a `for`'s test, or its `;`.
-#[tactic(auto, using(crate::proofs::StartLaws::test_empty, crate::proofs::Heads::test_goes))]
+#[tactic(auto, using(crate::proofs::StartLaws::test_empty, crate::proofs::StartLaws::test_goes))]
 pub fn test_start(
     alloc: Global,
     kind: &TokenKind,
@@ -180,7 +180,7 @@ pub fn step_start(
 }
 
 /// A token behind `return`.
-#[tactic(auto, using(crate::proofs::StartLaws::return_empty, crate::proofs::Heads::return_goes))]
+#[tactic(auto, using(crate::proofs::StartLaws::return_empty, crate::proofs::StartLaws::return_goes))]
 pub fn returning_step(
     alloc: Global,
     kind: &TokenKind,
