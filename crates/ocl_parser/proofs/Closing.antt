@@ -91,16 +91,22 @@ whole s K w =
 
 whole_by : (kind : TokenKind) (s : StmtTree) (K : List StmtFrame) (next : StmtFocus) (J : List StmtFrame) → is_else kind ≡ false →
     stmt_step kind somewhere (Finished s) K ≡ GoesOn next J → StmtEnds next J → WholeEnds s K
-whole_by kind s K next J k e h =
-    (kind, k, λ head ps fs. let x : Ends (Inside head ps next J) fs = h head ps fs in
-    (x.0, x.1, goes_run kind (Finished s) K (GoesOn next J) head ps fs x.0 e ∙ x.2))
+whole_by kind s K next J k e h = (
+  kind,
+  k,
+  λ head ps fs. let x : Ends (Inside head ps next J) fs = h head ps fs in
+      (x.0, x.1, goes_run kind (Finished s) K (GoesOn next J) head ps fs x.0 e ∙ x.2),
+)
 
 whole_closes : (s : StmtTree) (K : List StmtFrame) (items : StmtTrees) → stmt_step (MarkKind CloseBrace) somewhere (Finished s) K ≡ Closes items → WholeEnds s K
-whole_closes s K items e =
-    (MarkKind CloseBrace, refl, λ head ps fs.
-    let f : FunctionTree = record { kernel = head.kernel; name = head.name; gives = head.gives; params = ps; body = items } in
-    let x : Ends Outside (fs ++ (f ∷ [])) = outside_ends (fs ++ (f ∷ [])) in
-    (x.0, x.1, goes_run (MarkKind CloseBrace) (Finished s) K (Closes items) head ps fs x.0 e ∙ x.2))
+whole_closes s K items e = (
+  MarkKind CloseBrace,
+  refl,
+  λ head ps fs.
+      let f : FunctionTree = record { kernel = head.kernel; name = head.name; gives = head.gives; params = ps; body = items } in
+      let x : Ends Outside (fs ++ (f ∷ [])) = outside_ends (fs ++ (f ∷ [])) in
+      (x.0, x.1, goes_run (MarkKind CloseBrace) (Finished s) K (Closes items) head ps fs x.0 e ∙ x.2),
+)
 
 -- a frame that the statement ends
 step_alike : (kind : TokenKind) (f : StmtFrame) (s : StmtTree) (K : List StmtFrame) → is_else kind ≡ false → ends_with false f ≡ true →
@@ -111,10 +117,13 @@ step_alike kind f s K k h =
     ap (λ b. finished_step kind somewhere (finished b (completed f s) K)) (sym k))
 
 alike : (f : StmtFrame) (s : StmtTree) (K : List StmtFrame) → ends_with false f ≡ true → WholeEnds (completed f s) K → WholeEnds s (f ∷ K)
-alike f s K h w =
-    (w.0, w.1, λ head ps fs.
-    let x : (ts : List Token) × (gs : List FunctionTree) × (run (Inside head ps (Finished (completed f s)) K) fs (made w.0 ∷ ts) ≡ Some gs) = w.2 head ps fs in
-    (x.0, x.1, goes_run w.0 (Finished s) (f ∷ K) _ head ps fs x.0 (step_alike w.0 f s K w.1 h) ∙ x.2))
+alike f s K h w = (
+  w.0,
+  w.1,
+  λ head ps fs.
+      let x : (ts : List Token) × (gs : List FunctionTree) × (run (Inside head ps (Finished (completed f s)) K) fs (made w.0 ∷ ts) ≡ Some gs) = w.2 head ps fs in
+      (x.0, x.1, goes_run w.0 (Finished s) (f ∷ K) _ head ps fs x.0 (step_alike w.0 f s K w.1 h) ∙ x.2),
+)
 
 -- The outermost frame is a block, the function's body.
 abbrev pub IsRooted : List StmtFrame → Type 0
@@ -294,19 +303,23 @@ module _ (purpose : Purpose) (K : List StmtFrame) (close : (e : ExprTree) → Cl
 
   done_by : (c : Closer) (e : ExprTree) (inner : List ExprFrame) (next : StmtFocus) (J : List StmtFrame) →
       stmt_step (closer c) somewhere (Reading purpose (Done e) inner) K ≡ GoesOn next J → StmtEnds next J → DoneEnds e inner
-  done_by c e inner next J h x =
-      (c, λ head ps fs. let y : Ends (Inside head ps next J) fs = x head ps fs in
-      (y.0, y.1, goes_run (closer c) (Reading purpose (Done e) inner) K (GoesOn next J) head ps fs y.0 h ∙ y.2))
+  done_by c e inner next J h x = (
+    c,
+    λ head ps fs. let y : Ends (Inside head ps next J) fs = x head ps fs in
+        (y.0, y.1, goes_run (closer c) (Reading purpose (Done e) inner) K (GoesOn next J) head ps fs y.0 h ∙ y.2),
+  )
 
   done_alike : (f : ExprFrame) (e : ExprTree) (inner : List ExprFrame) → ends 0 f ≡ true → DoneEnds (closed_by f e) inner → DoneEnds e (f ∷ inner)
-  done_alike f e inner h d =
-      (d.0, λ head ps fs.
-      let x : (ts : List Token) × (gs : List FunctionTree) × (run (Inside head ps (Reading purpose (Done (closed_by f e)) inner) K) fs (made (closer d.0) ∷ ts) ≡ Some gs) = d.1 head ps fs in
-      let step : expr_step (closer d.0) somewhere (Done e) (f ∷ inner) ≡ expr_step (closer d.0) somewhere (Done (closed_by f e)) inner
-          = close_done d.0 e (f ∷ inner) ∙
-          (ap (λ b. close_standing (closer d.0) (cond b (settled 0 (closed_by f e) inner) (standing e (f ∷ inner)))) h ∙
-          sym (close_done d.0 (closed_by f e) inner)) in
-      (x.0, x.1, goes_run (closer d.0) (Reading purpose (Done e) (f ∷ inner)) K _ head ps fs x.0 (ap (λ n. reading_step (closer d.0) purpose n K) step) ∙ x.2))
+  done_alike f e inner h d = (
+    d.0,
+    λ head ps fs.
+        let x : (ts : List Token) × (gs : List FunctionTree) × (run (Inside head ps (Reading purpose (Done (closed_by f e)) inner) K) fs (made (closer d.0) ∷ ts) ≡ Some gs) = d.1 head ps fs in
+        let step : expr_step (closer d.0) somewhere (Done e) (f ∷ inner) ≡ expr_step (closer d.0) somewhere (Done (closed_by f e)) inner
+        = close_done d.0 e (f ∷ inner) ∙
+        (ap (λ b. close_standing (closer d.0) (cond b (settled 0 (closed_by f e) inner) (standing e (f ∷ inner)))) h ∙
+        sym (close_done d.0 (closed_by f e) inner)) in
+        (x.0, x.1, goes_run (closer d.0) (Reading purpose (Done e) (f ∷ inner)) K _ head ps fs x.0 (ap (λ n. reading_step (closer d.0) purpose n K) step) ∙ x.2),
+  )
 
   done_ends : (e : ExprTree) (inner : List ExprFrame) → DoneEnds e inner
   done_ends e [] =
@@ -339,9 +352,11 @@ module _ (purpose : Purpose) (K : List StmtFrame) (close : (e : ExprTree) → Cl
   named_ends : (n : Ident) (inner : List ExprFrame) → DoneEnds (NameTree n) inner → StmtEnds (Reading purpose (Named n) inner) K
   named_ends n inner d =
       λ head ps fs.
-      let x : (ts : List Token) × (gs : List FunctionTree) × (run (Inside head ps (Reading purpose (Done (NameTree n)) inner) K) fs (made (closer d.0) ∷ ts) ≡ Some gs) = d.1 head ps fs in
-      (made (closer d.0) ∷ x.0, x.1,
-       goes_run (closer d.0) (Reading purpose (Named n) inner) K _ head ps fs x.0 (ap (λ m. reading_step (closer d.0) purpose m K) (close_named d.0 n inner)) ∙ x.2)
+      let x : (ts : List Token) × (gs : List FunctionTree) × (run (Inside head ps (Reading purpose (Done (NameTree n)) inner) K) fs (made (closer d.0) ∷ ts) ≡ Some gs) = d.1 head ps fs in (
+        made (closer d.0) ∷ x.0,
+        x.1,
+        goes_run (closer d.0) (Reading purpose (Named n) inner) K _ head ps fs x.0 (ap (λ m. reading_step (closer d.0) purpose m K) (close_named d.0 n inner)) ∙ x.2,
+      )
 
   reading_ends : (focus : ExprFocus) (inner : List ExprFrame) → StmtEnds (Reading purpose focus inner) K
   reading_ends Operand inner = operand_ends inner

@@ -179,18 +179,26 @@ pub open_last : (items : StmtTrees) (elem : Elem) (constant : Bool) (n : Ident) 
     Leads (items_open items elem constant (mark Comma (declarator_text n value rest)))
     (items_open (and_stmt items (DeclareTree elem constant n value)) elem constant rest)
 open_last items elem constant n value rest =
-    record { by = λ ts h.
-        (h.0, h.1, h.2, and_stmt h.3 (DeclareTree elem constant n value),
-         ap (λ xs. and_stmt xs (DeclareTree elem constant n value)) h.4 ∙ and_joined_in h.0 (DeclareTree elem constant h.1 h.2) h.3 (DeclareTree elem constant n value),
-         (items_mono h.0 (type_mono elem constant (declarator_mono h.1 h.2 (names_last elem constant h.3 n value rest)))).by ts h.5) }
+    record {
+      by = λ ts h. (
+        h.0,
+        h.1,
+        h.2,
+        and_stmt h.3 (DeclareTree elem constant n value),
+        ap (λ xs. and_stmt xs (DeclareTree elem constant n value)) h.4 ∙ and_joined_in h.0 (DeclareTree elem constant h.1 h.2) h.3 (DeclareTree elem constant n value),
+        (items_mono h.0 (type_mono elem constant (declarator_mono h.1 h.2 (names_last elem constant h.3 n value rest)))).by ts h.5,
+      );
+    }
 
 pub open_end : (items : StmtTrees) (elem : Elem) (constant : Bool) (rest : Rest) →
     Leads (items_open items elem constant (mark Semicolon rest)) (items_text items rest)
 open_end items elem constant rest =
-    record { by = λ ts h.
-        subst (λ xs. items_text xs rest ts) (sym h.4)
-        ((items_join h.0 (AndStmt (DeclareTree elem constant h.1 h.2) h.3) rest).by ts
-        ((items_mono h.0 (type_mono elem constant (declarator_mono h.1 h.2 (names_end elem constant h.3 rest)))).by ts h.5)) }
+    record {
+      by = λ ts h.
+          subst (λ xs. items_text xs rest ts) (sym h.4)
+          ((items_join h.0 (AndStmt (DeclareTree elem constant h.1 h.2) h.3) rest).by ts
+          ((items_mono h.0 (type_mono elem constant (declarator_mono h.1 h.2 (names_end elem constant h.3 rest)))).by ts h.5));
+    }
 
 pub first_first : (elem : Elem) (constant : Bool) (n : Ident) (value : Option ExprTree) (rest : Rest) →
     Leads (declared_type elem constant (declarator_text n value rest)) (first_open (AndStmt (DeclareTree elem constant n value) NoStmts) elem constant rest)
@@ -200,9 +208,15 @@ pub first_last : (first : StmtTrees) (elem : Elem) (constant : Bool) (n : Ident)
     Leads (first_open first elem constant (mark Comma (declarator_text n value rest)))
     (first_open (and_stmt first (DeclareTree elem constant n value)) elem constant rest)
 first_last first elem constant n value rest =
-    record { by = λ ts h.
-        (h.0, h.1, and_stmt h.2 (DeclareTree elem constant n value), ap (λ xs. and_stmt xs (DeclareTree elem constant n value)) h.3,
-         (type_mono elem constant (declarator_mono h.0 h.1 (names_last elem constant h.2 n value rest))).by ts h.4) }
+    record {
+      by = λ ts h. (
+        h.0,
+        h.1,
+        and_stmt h.2 (DeclareTree elem constant n value),
+        ap (λ xs. and_stmt xs (DeclareTree elem constant n value)) h.3,
+        (type_mono elem constant (declarator_mono h.0 h.1 (names_last elem constant h.2 n value rest))).by ts h.4,
+      );
+    }
 
 pub first_end : (first : StmtTrees) (elem : Elem) (constant : Bool) (rest : Rest) → Leads (first_open first elem constant rest) (first_text first rest)
 first_end first elem constant rest = record { by = λ ts h. subst (λ xs. first_text xs rest ts) (sym h.3) h.4 }

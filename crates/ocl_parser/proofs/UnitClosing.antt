@@ -245,4 +245,3 @@ unit_follows kind pos (ParamNamed head ps) g = named_follows kind head ps
 unit_follows kind pos (ParamsClosed head ps) g = brace_follows kind head ps
 unit_follows kind pos (Inside head ps focus K) g = inside_follows (stmt_step kind pos focus K) head ps (stmt_follows kind pos focus K g.0 g.1)
 unit_follows kind pos AtEnd g = tt
-

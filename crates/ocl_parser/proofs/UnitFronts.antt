@@ -112,8 +112,10 @@ end_mono p (Some space) elem c f = one_mono _ (behind_mono false _ _ (λ fixed. 
 
 pub param_mono : (p : Param) {a b : Rest} → Leads a b → Leads (param_text p a) (param_text p b)
 param_mono p f =
-    record { by = λ ts h.
-        (h.0, (before_mono None false _ _ (λ s before. scalar_mono h.0 (qualifiers_mono before _ _ (λ c. end_mono p s h.0 c f)))).by ts h.1) }
+    record {
+      by = λ ts h.
+          (h.0, (before_mono None false _ _ (λ s before. scalar_mono h.0 (qualifiers_mono before _ _ (λ c. end_mono p s h.0 c f)))).by ts h.1);
+    }
 
 pub more_params_mono : (ps : List Param) {a b : Rest} → Leads a b → Leads (more_params_text ps a) (more_params_text ps b)
 more_params_mono [] f = f

@@ -43,8 +43,10 @@ typed : (space : Option Space) (constant : Bool) (s : Scalar) (rest : Rest) →
     Leads (param_words space constant (words (scalar_words s) rest)) (param_type space constant (scalar_elem s) rest)
 typed space constant s rest =
     before_mono None false _ _
-    (λ p c. given_mono _ (record { by = λ ts h.
-        (s, refl, (words_mono (scalar_words s) (then (record { by = λ us x. (h.0, x) }) (unqualified (λ both. given (both ≡ constant) rest) c))).by ts h.1) }))
+    (λ p c. given_mono _ (record {
+      by = λ ts h.
+          (s, refl, (words_mono (scalar_words s) (then (record { by = λ us x. (h.0, x) }) (unqualified (λ both. given (both ≡ constant) rest) c))).by ts h.1);
+    }))
 
 type_mono : (space : Option Space) (constant : Bool) (elem : Elem) {a b : Rest} → Leads a b → Leads (param_type space constant elem a) (param_type space constant elem b)
 type_mono space constant elem f =
@@ -67,10 +69,16 @@ scalar_whole n elem constant rest =
     let p : Param = record { name = n; kind = ScalarKind elem; constant = constant } in
     let inner : (before : Bool) → Leads (scalar elem (qualifiers before (λ both. given (both ≡ constant) (name n rest)))) (scalar elem (qualifiers before (λ both. param_end_text p None elem both rest)))
     = λ before. scalar_mono elem (qualifiers_mono before _ _ (λ both. record { by = λ ts x. (refl, (sym x.0, x.1)) })) in
-    record { by = λ ts h.
-        (elem, (before_mono None false _ _
-        (λ s before. record { by = λ us x.
-            subst (λ o. scalar elem (qualifiers before (λ both. param_end_text p o elem both rest)) us) (sym x.0) ((inner before).by us x.1) })).by ts h) }
+    record {
+      by = λ ts h. (
+        elem,
+        (before_mono None false _ _
+            (λ s before. record {
+              by = λ us x.
+                  subst (λ o. scalar elem (qualifiers before (λ both. param_end_text p o elem both rest)) us) (sym x.0) ((inner before).by us x.1);
+            })).by ts h,
+      );
+    }
 
 starred_whole : (n : Ident) (space : Space) (elem : Elem) (readonly constant : Bool) (rest : Rest) →
     Leads (star_front (Pointer space elem readonly) constant (name n rest))
@@ -78,15 +86,23 @@ starred_whole : (n : Ident) (space : Space) (elem : Elem) (readonly constant : B
 starred_whole n space elem readonly constant rest =
     let p : Param = record { name = n; kind = Pointer space elem readonly; constant = constant } in
     let inner : (before : Bool) →
-        Leads (scalar elem (qualifiers before (λ both. given (readonly ≡ (both || is_constant space)) (mark Star (behind_text false (λ fixed. given (fixed ≡ constant) (name n rest)))))))
-        (scalar elem (qualifiers before (λ both. param_end_text p (Some space) elem both rest)))
+    Leads (scalar elem (qualifiers before (λ both. given (readonly ≡ (both || is_constant space)) (mark Star (behind_text false (λ fixed. given (fixed ≡ constant) (name n rest)))))))
+    (scalar elem (qualifiers before (λ both. param_end_text p (Some space) elem both rest)))
     = λ before. scalar_mono elem (qualifiers_mono before _ _
-        (λ both. record { by = λ ts x.
-            (one_mono _ (behind_mono false _ _ (λ fixed. record { by = λ us y. (ap (Pointer space elem) x.0, (sym y.0, y.1)) }))).by ts x.1 })) in
-    record { by = λ ts h.
-        (elem, (before_mono None false _ _
-        (λ s before. record { by = λ us x.
-            subst (λ o. scalar elem (qualifiers before (λ both. param_end_text p o elem both rest)) us) (sym x.0) ((inner before).by us x.1) })).by ts h) }
+    (λ both. record {
+      by = λ ts x.
+          (one_mono _ (behind_mono false _ _ (λ fixed. record { by = λ us y. (ap (Pointer space elem) x.0, (sym y.0, y.1)) }))).by ts x.1;
+    })) in
+    record {
+      by = λ ts h. (
+        elem,
+        (before_mono None false _ _
+            (λ s before. record {
+              by = λ us x.
+                  subst (λ o. scalar elem (qualifiers before (λ both. param_end_text p o elem both rest)) us) (sym x.0) ((inner before).by us x.1);
+            })).by ts h,
+      );
+    }
 
 star_whole : (n : Ident) (kind : ParamKind) (constant : Bool) (rest : Rest) →
     Leads (star_front kind constant (name n rest)) (param_text (record { name = n; kind = kind; constant = constant }) rest)
@@ -208,8 +224,10 @@ module _ (t : Token) (rest : Rest) (fs : List FunctionTree) where
       functions_mono fs (params_front_mono head ps
       (before_mono None false _ _
       (λ s before. given_mono _ (scalar_mono elem (qualifiers_mono before _ _
-      (λ both. record { by = λ ts x.
-          (ap (λ c. c || is_constant space) (sym x.0), (then (taken t _ h) (one_mono _ (none_behind rest))).by ts x.1) }))))))
+      (λ both. record {
+        by = λ ts x.
+            (ap (λ c. c || is_constant space) (sym x.0), (then (taken t _ h) (one_mono _ (none_behind rest))).by ts x.1);
+      }))))))
 
   type_reads : (kind : TokenKind) → t.kind ≡ kind → (head : Head) (ps : List Param) (space : Option Space) (constant : Bool) (elem : Elem) →
       Leads (functions_text fs (params_front head ps (param_type space constant elem (after t rest))))

@@ -125,12 +125,7 @@ pub fn first_start(alloc: Global, kind: &TokenKind, pos: Pos) -> Result<StmtMove
 
 /// The first token of a declaration or an assignment.
 #[tactic(auto, using(crate::proofs::StartLaws::not_word))]
-fn first_part(
-    alloc: Global,
-    kind: &TokenKind,
-    pos: Pos,
-    part: Part,
-) -> Result<StmtMove, Memory>
+fn first_part(alloc: Global, kind: &TokenKind, pos: Pos, part: Part) -> Result<StmtMove, Memory>
     ensures { IfOk result (λ moved. (K : List StmtFrame) → stmt_next moved K ≡ first_part kind.now pos part K) }
 {
     match kind {

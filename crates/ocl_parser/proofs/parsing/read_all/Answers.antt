@@ -18,9 +18,9 @@ loop-token-preserved c =
     let gs : List FunctionTree = map function_tree c.read_token.new.functions in
     record {
       reads = reads_more c.args.tokens.now c.loop-token.token-index c.token-item.result c.loop-token.focus c.in-Ok.next fs gs low c.token-item.is
-        c.loop-token.invariant.reads c.in-Ok.ensures.goes;
+          c.loop-token.invariant.reads c.in-Ok.ensures.goes;
       ended = ends_more c.args.tokens.now c.loop-token.token-index c.token-item.result c.in-Ok.next low c.token-item.is
-        (step_ends c.token-item.result c.loop-token.focus c.in-Ok.next fs gs c.in-Ok.ensures.goes);
+          (step_ends c.token-item.result c.loop-token.focus c.in-Ok.next fs gs c.in-Ok.ensures.goes);
       can = step_can c.token-item.result c.loop-token.focus c.in-Ok.next fs gs c.in-Ok.ensures.goes c.loop-token.invariant.can;
     }
 
