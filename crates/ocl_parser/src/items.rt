@@ -223,12 +223,28 @@ fn placed_step(
             item_step(alloc, kind, pos, frames)
         }
         Some(StmtFrame::Else(test, one)) => Ok(refuse_behind(test, one)),
-        Some(StmtFrame::While(_)) | Some(StmtFrame::For(..)) | None => Ok(StmtMove::Refused),
+        Some(StmtFrame::While(test)) => Ok(refuse_behind_while(test)),
+        Some(StmtFrame::For(first, test, step)) => Ok(refuse_behind_for(first, test, step)),
+        None => Ok(StmtMove::Refused),
     }
 }
 
 /// The second statement of an `if` ends it, so nothing waits behind it.
 fn refuse_behind(_test: Tree, _one: Statement) -> StmtMove
+    ensures { (K : List StmtFrame) → stmt_next result K ≡ Stops }
+{
+    StmtMove::Refused
+}
+
+/// The body of a `while` ends it, so nothing waits behind it.
+fn refuse_behind_while(_test: Tree) -> StmtMove
+    ensures { (K : List StmtFrame) → stmt_next result K ≡ Stops }
+{
+    StmtMove::Refused
+}
+
+/// The body of a `for` ends it, so nothing waits behind it.
+fn refuse_behind_for(_first: Statements, _test: Option<Tree>, _step: Statements) -> StmtMove
     ensures { (K : List StmtFrame) → stmt_next result K ≡ Stops }
 {
     StmtMove::Refused
