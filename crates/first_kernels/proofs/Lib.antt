@@ -10,13 +10,4 @@ pub mod FirstLaunchState
 pub mod FirstLaunchTame
 pub mod FirstLaunchLeaves
 pub mod FirstLaunchExamples
-pub mod FirstLexing
-pub mod FirstLiterals
-pub mod FirstChains
-pub mod FirstLoops
-pub mod FirstFields
-pub mod FirstSums
-pub mod FirstSumsAgain
-pub mod FirstKernels
-pub mod FirstTexts
-pub mod FirstExamples
+pub mod FirstFormLaws

@@ -1,7 +1,5 @@
 pub mod FirstTree
-pub mod FirstText
-pub mod FirstTokens
-pub mod FirstReading
+pub mod FirstForms
 pub mod First
 pub mod FirstValues
 pub mod FirstMemory
