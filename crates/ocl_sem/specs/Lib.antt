@@ -1,0 +1,5 @@
+pub mod Operators
+pub mod Settings
+pub mod Tasks
+pub mod Source
+pub mod Items
