@@ -31,16 +31,16 @@ height_some t = above_zero (height t) (positive t)
 
 -- ---- what a kernel that has a form is
 
-cond_is : {A : Type 0} (b : Bool) (x y : A) → cond b (Some x) None ≡ Some y → (b ≡ true) × (x ≡ y)
+pub cond_is : {A : Type 0} (b : Bool) (x y : A) → cond b (Some x) None ≡ Some y → (b ≡ true) × (x ≡ y)
 cond_is true x y e = (refl, cc)
 cond_is false x y e = absurd cc
 
-both_hold : (a b : Bool) → (a && b) ≡ true → (a ≡ true) × (b ≡ true)
+pub both_hold : (a b : Bool) → (a && b) ≡ true → (a ≡ true) × (b ≡ true)
 both_hold true true e = (refl, refl)
 both_hold true false e = absurd cc
 both_hold false b e = absurd cc
 
-own_is : (n : ℕ) (array : ArrayRef) (elem : Elem) (place : ExprNode) (p : ℕ) → own_parameter n array elem place ≡ Some p → (array ≡ Parameter p) × (elem ≡ Int) × (is_own_id place ≡ true) × (p < n)
+pub own_is : (n : ℕ) (array : ArrayRef) (elem : Elem) (place : ExprNode) (p : ℕ) → own_parameter n array elem place ≡ Some p → (array ≡ Parameter p) × (elem ≡ Int) × (is_own_id place ≡ true) × (p < n)
 own_is n (Parameter q) Int place p e =
     let g = cond_is (is_own_id place && ltb q n) q p e in
     let b = both_hold (is_own_id place) (ltb q n) g.0 in
@@ -52,14 +52,14 @@ own_is n (Parameter q) Ushort place p e = absurd cc
 own_is n (Parameter q) Uint place p e = absurd cc
 own_is n (Declared q) elem place p e = absurd cc
 
-applied_is : (op : Option Operator) (l r : Option Tree) (t : Tree) → applied op l r ≡ Some t
+pub applied_is : (op : Option Operator) (l r : Option Tree) (t : Tree) → applied op l r ≡ Some t
     → (o : Operator) × (a : Tree) × (b : Tree) × (op ≡ Some o) × (l ≡ Some a) × (r ≡ Some b) × (Applied o a b ≡ t)
 applied_is (Some op) (Some l) (Some r) t e = (op, l, r, refl, refl, refl, cc)
 applied_is (Some op) (Some l) None t e = absurd cc
 applied_is (Some op) None r t e = absurd cc
 applied_is None l r t e = absurd cc
 
-mapped_is : {A B : Type 0} (f : A → B) (o : Option A) (y : B) → option_map f o ≡ Some y → (x : A) × (o ≡ Some x) × (f x ≡ y)
+pub mapped_is : {A B : Type 0} (f : A → B) (o : Option A) (y : B) → option_map f o ≡ Some y → (x : A) × (o ≡ Some x) × (f x ≡ y)
 mapped_is f (Some x) y e = (x, refl, cc)
 mapped_is f None y e = absurd cc
 

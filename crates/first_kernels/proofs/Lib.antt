@@ -11,3 +11,6 @@ pub mod FirstLaunchTame
 pub mod FirstLaunchLeaves
 pub mod FirstLaunchExamples
 pub mod FirstFormLaws
+pub mod FirstFormLoops
+pub mod FirstAlike
+pub mod FirstAsks

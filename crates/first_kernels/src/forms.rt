@@ -1,4 +1,5 @@
 ghost use Rattle.std.specs.Prelude.{◌≡◌, ◌==◌, ◌&&◌, length, map, nat_le, nat_lt, option_map, Some, IfOk};
+ghost use Rattle.std.specs.List.{list_all};
 ghost use Rattle.ocl_program.specs.Nodes.{arg_nodes};
 ghost use Rattle.ocl_program.specs.Shapes.{argument_node, function_node, node_of, stmt_node, typed_stmts};
 ghost use Rattle.first_kernels.specs.FirstForms.{applied, assigned, assignment_from, assignments_from, form_from, Gives, has_int_arrays, is_int_array, is_own_id, is_count, is_global_id, is_zero, is_zero_literal, literal_from, operator_of, own_parameter, sum_from};
@@ -249,11 +250,22 @@ fn is_count(count: usize) -> bool
     0 < count && count <= MOST_PARAMETERS
 }
 
+/// Whether each parameter takes an array of ints.
+fn are_int_arrays(params: &[Param]) -> bool
+    ensures { result ≡ list_all (λ p. is_int_array p) params.now }
+{
+    params.iter().all(|param| is_int_array(param))
+}
+
 /// Whether the parameters of a kernel are as many as they may be, and arrays of ints.
 fn has_int_arrays(params: &[Param]) -> bool
     ensures { result ≡ has_int_arrays params.now }
 {
-    is_count(params.len()) && params.iter().all(|param| is_int_array(param))
+    if is_count(params.len()) {
+        are_int_arrays(params)
+    } else {
+        false
+    }
 }
 
 fn kernel_from(alloc: Global, function: &TypedFunction) -> Result<Kernel, Unread>
