@@ -14,3 +14,5 @@ pub mod FirstFormLaws
 pub mod FirstFormLoops
 pub mod FirstAlike
 pub mod FirstAsks
+pub mod SameLaunches
+pub mod FirstSourceLaws

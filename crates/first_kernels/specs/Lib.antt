@@ -1,5 +1,6 @@
 pub mod FirstTree
 pub mod FirstForms
+pub mod FirstSources
 pub mod First
 pub mod FirstValues
 pub mod FirstMemory
