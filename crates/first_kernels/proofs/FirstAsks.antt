@@ -125,6 +125,13 @@ operator_same binary.And o e unsigned a b = absurd cc
 operator_same binary.Xor o e unsigned a b = absurd cc
 operator_same binary.Or o e unsigned a b = absurd cc
 
+-- a first assignment and those behind it
+pub followed_is : (a : Option Assigns) (more : Option (List Assigns)) (all : List Assigns) → followed a more ≡ Some all
+    → (x : Assigns) × (xs : List Assigns) × (a ≡ Some x) × (more ≡ Some xs) × (x ∷ xs ≡ all)
+followed_is (Some x) (Some xs) all e = (x, xs, refl, refl, cc)
+followed_is (Some x) None all e = absurd cc
+followed_is None more all e = absurd cc
+
 -- the array of a parameter that is bound to the buffer of this number
 abbrev pub int_buffer : ℕ → ℕ → ItemArray
 int_buffer number count = record { local = false; number = number; count = count; elem = Int; writable = true }
@@ -267,12 +274,6 @@ module _ (program : List FunctionNode) (scope : Scope) (no_names : scope.arrays 
   stmt_alike (ReturnNode value) a e ts ts' on variables = absurd cc
   stmt_alike (BlockNode items') a e ts ts' on variables = absurd cc
   stmt_alike EmptyNode a e ts ts' on variables = absurd cc
-
-  followed_is : (a : Option Assigns) (more : Option (List Assigns)) (all : List Assigns) → followed a more ≡ Some all
-      → (x : Assigns) × (xs : List Assigns) × (a ≡ Some x) × (more ≡ Some xs) × (x ∷ xs ≡ all)
-  followed_is (Some x) (Some xs) all e = (x, xs, refl, refl, cc)
-  followed_is (Some x) None all e = absurd cc
-  followed_is None more all e = absurd cc
 
   -- the whole body
   pub body_alike : (body : StmtNodes) (all : List Assigns) → assignments_from n body ≡ Some all → Alike (body_tasks all) (stmts_tasks program scope body []) []

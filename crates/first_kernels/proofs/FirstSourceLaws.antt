@@ -1,7 +1,7 @@
 -- The launch of a kernel of assignments, by the work-item semantics, leaves what that of its form leaves.
 use Rattle.std.proofs.Common.{◌≡◌, ℕ, zero, suc, ◌+◌, ◌*◌, ◌/◌, ◌%◌, ◌^◌, ◌<◌, ◌≤◌, Bool, true, false, ◌&&◌, cond, leb, ltb, List, [], ◌∷◌, length, map, Option, Some, None, refl, sym, ap, subst, ◌∙◌, arith}
 use Rattle.std.specs.Prelude.{slice_get, slice_index, option_map}
-use Rattle.std.specs.List.{list_all}
+use Rattle.std.specs.List.{AllByRecursion, list_all}
 use Rattle.std.proofs.Math.Nat.{div-eq_of_lt, mod-eq_of_lt, zero-mod}
 use Rattle.std.proofs.lemmas.Bool.{leb-true}
 use Rattle.vx_base.specs.declared.types.ParamKind.{ParamKind}
@@ -13,16 +13,17 @@ use Rattle.item_acts.specs.Tame.{LaunchLeaves}
 use Rattle.ocl_ast.specs.declared.units.Param.{Param}
 use Rattle.ocl_program.specs.declared.exprs.ArrayRef.TheVariants.{Parameter}
 use Rattle.ocl_program.specs.declared.exprs.Builtin.TheVariants.{GlobalId}
-use Rattle.ocl_program.specs.Nodes.{FunctionNode}
+use Rattle.ocl_ast.specs.declared.stmts.AssignOp.TheVariants.{Set, With, Up, Down}
+use Rattle.ocl_program.specs.Nodes.{StmtNode, DeclareNode, LocalArrayNode, SetVariableNode, SetElementNode, CallStmtNode, BarrierNode, IfNode, IfElseNode, WhileNode, DoNode, ForNode, BreakNode, ContinueNode, ReturnNode, BlockNode, EmptyNode, StmtNodes, NoStmts, AndStmt, FunctionNode}
 use Rattle.ocl_sem.specs.Settings.{setting_of, array_of, bound_values, global_id, bound_array}
 use Rattle.ocl_sem.specs.Items.{kernel_asks, kernel_scope}
 use Rattle.first_kernels.specs.First.{launch_of, array_of as buffer_of}
-use Rattle.first_kernels.specs.FirstForms.{form_from, formed, has_int_arrays, is_count, is_int_array, takes_ints, assignments_from}
+use Rattle.first_kernels.specs.FirstForms.{form_from, formed, has_int_arrays, is_count, is_int_array, takes_ints, assignment_from, assignments_from, IsFit}
 use Rattle.first_kernels.specs.FirstSources.{one_group, int_bounds, source_launch}
-use Rattle.first_kernels.specs.FirstTree.{Assigns, Form}
-use Rattle.first_kernels.specs.FirstValues.{IsLaunchable}
-use Rattle.first_kernels.proofs.FirstAsks.{body_alike, int_buffer}
-use Rattle.first_kernels.proofs.FirstFormLaws.{cond_is, both_hold, mapped_is}
+use Rattle.first_kernels.specs.FirstTree.{Assigns, Form, height}
+use Rattle.first_kernels.specs.FirstValues.{IsAssignmentOf, IsLaunchable}
+use Rattle.first_kernels.proofs.FirstAsks.{body_alike, followed_is, int_buffer}
+use Rattle.first_kernels.proofs.FirstFormLaws.{cond_is, both_hold, mapped_is, sum_is, assignment_is}
 use Rattle.first_kernels.proofs.SameLaunches.{leaves_there}
 
 -- what a kernel that has a form is
@@ -75,6 +76,55 @@ array_is f k arguments items p h same below =
     let kind = kind_is b.0.kind b.2 in
     rw (b.1, b.3) (ap (λ x. bound_array x (Array (slice_index arguments p) items)) kind)
 
+-- the assignments of a body are over its parameters, and low
+made_is : (n : ℕ) (s : StmtNode) (a : Assigns) → assignment_from n s ≡ Some a → IsAssignmentOf n a × (height a.value ≤ 16)
+made_is n (SetElementNode array elem place Set unsigned (Some value) pos) a e =
+    let is = assignment_is n array elem place value unsigned pos a e in
+    ((is.within, sum_is n value a.value is.sum), is.low)
+made_is n (SetElementNode array elem place Set unsigned None pos) a e = absurd cc
+made_is n (SetElementNode array elem place (With op) unsigned value pos) a e = absurd cc
+made_is n (SetElementNode array elem place Up unsigned value pos) a e = absurd cc
+made_is n (SetElementNode array elem place Down unsigned value pos) a e = absurd cc
+made_is n (DeclareNode variable elem value) a e = absurd cc
+made_is n (LocalArrayNode array count) a e = absurd cc
+made_is n (SetVariableNode variable elem op unsigned value) a e = absurd cc
+made_is n (CallStmtNode call) a e = absurd cc
+made_is n (BarrierNode site) a e = absurd cc
+made_is n (IfNode test one) a e = absurd cc
+made_is n (IfElseNode test one other) a e = absurd cc
+made_is n (WhileNode test body) a e = absurd cc
+made_is n (DoNode body test) a e = absurd cc
+made_is n (ForNode first test step body) a e = absurd cc
+made_is n BreakNode a e = absurd cc
+made_is n ContinueNode a e = absurd cc
+made_is n (ReturnNode value) a e = absurd cc
+made_is n (BlockNode items) a e = absurd cc
+made_is n EmptyNode a e = absurd cc
+
+all_made : (n : ℕ) (body : StmtNodes) (all : List Assigns) → assignments_from n body ≡ Some all
+    → AllByRecursion (IsAssignmentOf n) all × AllByRecursion (λ a. height a.value ≤ 16) all
+all_made n NoStmts all e =
+    let none : [] ≡ all = cc in
+    subst (λ (xs : List Assigns). AllByRecursion (IsAssignmentOf n) xs × AllByRecursion (λ a. height a.value ≤ 16) xs) none (tt, tt)
+all_made n (AndStmt s ss) all e =
+    let f = followed_is (assignment_from n s) (assignments_from n ss) all e in
+    let one = made_is n s f.0 f.2 in
+    let more = all_made n ss f.1 f.3 in
+    subst (λ (xs : List Assigns). AllByRecursion (IsAssignmentOf n) xs × AllByRecursion (λ a. height a.value ≤ 16) xs) f.4 ((one.0, more.0), (one.1, more.1))
+
+few_params : (n : ℕ) → is_count n ≡ true → n ≤ 16
+few_params n e = leb-true n 16 (both_hold (ltb 0 n) (leb n 16) e).1
+
+pub form_fits : (f : FunctionNode) (k : Form) → form_from f ≡ Some k → IsFit k
+form_fits f k e =
+    let h = has_form f k e in
+    let all = all_made (length f.params) f.body k.assignments h.assignments in
+    record {
+      few = subst (λ (n : ℕ). n ≤ 16) (sym h.parameters) (few_params (length f.params) h.count);
+      assignments = subst (λ (n : ℕ). AllByRecursion (IsAssignmentOf n) k.assignments) (sym h.parameters) all.0;
+      low = all.1;
+    }
+
 -- the item with a number has this id
 own_number : (items item : ℕ) → item < items → global_id (one_group items) item 0 ≡ item
 own_number items item below =
@@ -82,9 +132,6 @@ own_number items item below =
     let group : item / items ≡ 0 = div-eq_of_lt below in
     let number : item % items ≡ item = mod-eq_of_lt below in
     rw (size, group, zero-mod, number, number) (omega arith)
-
-few_params : (n : ℕ) → is_count n ≡ true → n ≤ 16
-few_params n e = leb-true n 16 (both_hold (ltb 0 n) (leb n 16) e).1
 
 -- the launch by the work-item semantics leaves what that of the form leaves
 pub source_leaves : (program : List FunctionNode) (f : FunctionNode) (k : Form) (arguments : List ℕ) (items buffers : ℕ) (given left : ℕ → ℕ → ℕ) → form_from f ≡ Some k

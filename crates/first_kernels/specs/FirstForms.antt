@@ -1,6 +1,6 @@
 -- Which resolved kernels are kernels of assignments.
-use Rattle.std.specs.Prelude.{◌≡◌, ◌==◌, ℕ, ◌^◌, nat_lt, nat_le, Bool, true, false, not, ◌&&◌, if◌then◌else◌, List, [], ◌∷◌, length, Option, Some, None, option_map, option_and_then, Result, Ok, Err}
-use Rattle.std.specs.List.{list_all}
+use Rattle.std.specs.Prelude.{◌≡◌, ◌==◌, ℕ, ◌^◌, ◌≤◌, nat_lt, nat_le, Bool, true, false, not, ◌&&◌, if◌then◌else◌, List, [], ◌∷◌, length, Option, Some, None, option_map, option_and_then, Result, Ok, Err}
+use Rattle.std.specs.List.{AllByRecursion, list_all}
 use Rattle.vx_base.specs.declared.types.Elem.{Elem}
 use Rattle.vx_base.specs.declared.types.Elem.TheVariants.{Int}
 use Rattle.vx_base.specs.declared.types.ParamKind.{ParamKind}
@@ -19,6 +19,7 @@ use Rattle.first_kernels.specs.declared.tree.Operator.{Operator}
 use Rattle.first_kernels.specs.declared.tree.Operator.TheVariants.{Add, Subtract, Multiply}
 use Rattle.first_kernels.specs.declared.unread.Unread.{Unread}
 use Rattle.first_kernels.specs.declared.unread.Unread.TheVariants.{Memory, OtherForm}
+use Rattle.first_kernels.specs.FirstValues.{IsAssignmentOf}
 use Rattle.first_kernels.specs.FirstTree.{Tree, Literal, OwnId, OwnElement, Grouped, Applied, Assigns, Form, height}
 
 -- a failure tells that there is nothing, unless memory ran out
@@ -128,3 +129,9 @@ formed parameters all = option_map (λ assignments. record { parameters = parame
 -- statements assigns a sum to the item's own element of one of them.
 abbrev pub form_from : FunctionNode → Option Form
 form_from f = if has_int_arrays f.params then formed (length f.params) (assignments_from (length f.params) f.body) else None
+
+-- what holds of each such form: few parameters, assignments to their elements, and low sums
+pub record IsFit (k : Form) : Type 0 where
+  pub few : k.parameters ≤ most_parameters
+  pub assignments : AllByRecursion (IsAssignmentOf k.parameters) k.assignments
+  pub low : AllByRecursion (λ a. height a.value ≤ most_height) k.assignments

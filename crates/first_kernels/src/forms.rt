@@ -1,8 +1,8 @@
-ghost use Rattle.std.specs.Prelude.{◌≡◌, ◌==◌, ◌&&◌, length, map, nat_le, nat_lt, option_map, Some, IfOk};
+ghost use Rattle.std.specs.Prelude.{◌≡◌, ◌==◌, ◌&&◌, length, map, nat_le, nat_lt, option_map, Some, IfOk, IfSome};
 ghost use Rattle.std.specs.List.{list_all};
 ghost use Rattle.ocl_program.specs.Nodes.{arg_nodes};
 ghost use Rattle.ocl_program.specs.Shapes.{argument_node, function_node, node_of, stmt_node, typed_stmts};
-ghost use Rattle.first_kernels.specs.FirstForms.{applied, assigned, assignment_from, assignments_from, form_from, Gives, has_int_arrays, is_int_array, is_own_id, is_count, is_global_id, is_zero, is_zero_literal, literal_from, operator_of, own_parameter, sum_from};
+ghost use Rattle.first_kernels.specs.FirstForms.{applied, assigned, assignment_from, assignments_from, form_from, Gives, IsFit, has_int_arrays, is_int_array, is_own_id, is_count, is_global_id, is_zero, is_zero_literal, literal_from, operator_of, own_parameter, sum_from};
 ghost use Rattle.first_kernels.specs.FirstTree.{Grouped, assigns_of, form_of, height, tree_of};
 
 use crate::tree::{Assignment, Kernel, Operator, Sum};
@@ -285,7 +285,10 @@ fn kernel_from(alloc: Global, function: &TypedFunction) -> Result<Kernel, Unread
 /// The kernel of assignments that a resolved kernel is, or None where it is none (`specs/FirstForms.antt`): another
 /// statement, type or index, a literal of type uint, or more than 16 parameters are of another form.
 pub fn kernel_of(alloc: Global, function: &TypedFunction) -> Result<Option<Kernel>, Memory>
-    ensures { IfOk result (λ found. option_map form_of found ≡ form_from (function_node function.now)) }
+    // There is one exactly where the kernel has a form, and it is the form's.
+    ensures found { IfOk result (λ found. option_map form_of found ≡ form_from (function_node function.now)) }
+    // It has few parameters, its assignments are to their elements, and its sums are low.
+    ensures fit { IfOk result (λ found. IfSome found (λ kernel. IsFit (form_of kernel))) }
 {
     match kernel_from(alloc, function) {
         Ok(kernel) => Ok(Some(kernel)),
