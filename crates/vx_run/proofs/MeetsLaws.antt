@@ -54,7 +54,7 @@ module _ (held : Option (List Entry)) where
 
   may_source : (c : RunWords) (bytes : List ℕ) (o : Outcome) → FromSource held c bytes o → MayBe o
   may_source c bytes o (LongSource long) = tt
-  may_source c bytes o (BadSource fault few is) = tt
+  may_source c bytes o (BadSource fault few room is) = tt
   may_source c bytes o (HasProgram program q few is h) = may_program c program o h
 
   may_file : (c : RunWords) (o : Outcome) → FromFile held c o → MayBe o

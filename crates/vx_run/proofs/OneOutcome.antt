@@ -120,14 +120,14 @@ module _ (entries : List Entry) where
 
   one_source : (c : RunWords) (bytes : List ℕ) (o p : Outcome) → FromSource told c bytes o → FromSource told c bytes p → Agree o p
   one_source c bytes o p (LongSource long) (LongSource long') = refl
-  one_source c bytes o p (LongSource long) (BadSource fault few is) = absurd (omega (arith, long, few))
+  one_source c bytes o p (LongSource long) (BadSource fault few room is) = absurd (omega (arith, long, few))
   one_source c bytes o p (LongSource long) (HasProgram program q few is h) = absurd (omega (arith, long, few))
-  one_source c bytes o p (BadSource fault few is) (LongSource long) = absurd (omega (arith, long, few))
-  one_source c bytes o p (BadSource fault few is) (BadSource fault' few' is') =
+  one_source c bytes o p (BadSource fault few room is) (LongSource long) = absurd (omega (arith, long, few))
+  one_source c bytes o p (BadSource fault few room is) (BadSource fault' few' room' is') =
       ap (λ (f : SourceFault). cause.Source f.pos f.kind) (errors_same fault fault' (one_front bytes (Err fault) (Err fault') is is'))
-  one_source c bytes o p (BadSource fault few is) (HasProgram program q few' is' h) = absurd (error_ok fault program (one_front bytes (Err fault) (Ok program) is is'))
+  one_source c bytes o p (BadSource fault few room is) (HasProgram program q few' is' h) = absurd (error_ok fault program (one_front bytes (Err fault) (Ok program) is is'))
   one_source c bytes o p (HasProgram program q few is h) (LongSource long) = absurd (omega (arith, long, few))
-  one_source c bytes o p (HasProgram program q few is h) (BadSource fault few' is') = absurd (error_ok fault program (one_front bytes (Err fault) (Ok program) is' is))
+  one_source c bytes o p (HasProgram program q few is h) (BadSource fault few' room is') = absurd (error_ok fault program (one_front bytes (Err fault) (Ok program) is' is))
   one_source c bytes o p (HasProgram program q few is h) (HasProgram program' q' few' is' h') =
       one_program c program o p h (subst (λ x. FromProgram told c x p) (oks_same program' program (one_front bytes (Ok program') (Ok program) is' is)) h')
 

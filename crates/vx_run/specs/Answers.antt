@@ -103,7 +103,8 @@ most_source = 1048576
 -- the source: these bytes are few enough, and have a program
 pub data FromSource (held : Option (List Entry)) (c : RunWords) (bytes : List ℕ) : Outcome → Type 0 where
   LongSource : most_source < length bytes → FromSource held c bytes (Refuses (cause.Source first_place source.TooLong))
-  BadSource : (fault : SourceFault) → length bytes ≤ most_source → FrontOf bytes (Err fault) → FromSource held c bytes (Refuses (cause.Source fault.pos fault.kind))
+  BadSource : (fault : SourceFault) → length bytes ≤ most_source → fault.kind ≢ source.Memory → FrontOf bytes (Err fault) →
+      FromSource held c bytes (Refuses (cause.Source fault.pos fault.kind))
   HasProgram : (program : List FunctionNode) (o : Outcome) → length bytes ≤ most_source → FrontOf bytes (Ok program) → FromProgram held c program o → FromSource held c bytes o
 
 -- the kernel's file: it is there

@@ -24,7 +24,8 @@ const ASSEMBLY_LIMIT: usize = 2_097_152;
 /// The most bytes that a text of words may have.
 const WORD_TEXT_LIMIT: usize = 1_048_576;
 
-fn too_long() -> Stop
+/// The refusal of a file that has too many bytes.
+pub fn too_long() -> Stop
     ensures { result ≡ Stop.Refused (Cause.Source first_place SourceKind.TooLong) }
 {
     Stop::Refused(Cause::Source {
