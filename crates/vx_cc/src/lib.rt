@@ -1,12 +1,12 @@
 //! The compiler of kernel files. Today it has its front: from the bytes of a file to its resolved program, or to the first
 //! fault of the file ([`front`]).
 //!
-//! Read first `specs/Fronts.antt` for what the front gives, then `front`. `faults` has the faults of all source files, with
+//! Read first `specs/Fronts.antt` for what the front gives, then `sources`. `faults` has the faults of all source files, with
 //! their texts.
 #![tactic(auto)]
 
 pub mod faults;
-pub mod front;
+pub mod sources;
 
 pub use faults::{SourceFault, SourceKind};
-pub use front::front;
+pub use sources::front;
