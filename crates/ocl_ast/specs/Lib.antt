@@ -1,3 +1,5 @@
 pub mod Trees
 pub mod Shapes
 pub mod Measures
+pub mod ExprCodes
+pub mod StmtCodes

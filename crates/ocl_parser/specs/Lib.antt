@@ -1,0 +1,13 @@
+pub mod Spellings
+pub mod Scalars
+pub mod Exprs
+pub mod Stmts
+pub mod Units
+pub mod ScalarSteps
+pub mod ExprSteps
+pub mod StmtSteps
+pub mod UnitSteps
+pub mod Moves
+pub mod Runs
+pub mod Faults
+pub mod Starts

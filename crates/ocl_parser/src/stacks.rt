@@ -1,0 +1,250 @@
+ghost use Rattle.std.specs.Prelude.{◌≡◌};
+ghost use Rattle.ocl_parser.specs.ExprSteps.{ends};
+ghost use Rattle.ocl_parser.specs.StmtSteps.{ends_with};
+
+use crate::operators::infix_level;
+use crate::states::{ExprFrame, StmtFrame};
+use crate::trees::Statement;
+use std::alloc::Global;
+use std::marker::Model;
+use vx_base::Memory;
+
+/// What an expression stands in.
+#[derive(Debug, Drop)]
+pub struct ExprFrames {
+    /// The frames, the innermost last.
+    items: Vec<ExprFrame>,
+}
+
+impl Model for ExprFrames {
+    ghost use Rattle.std.specs.Prelude.{List, reverse};
+    ghost use Rattle.std.specs.Coded.{codes};
+    ghost use Rattle.ocl_parser.specs.contracts.states.ExprFrame as e;
+    ghost use Rattle.ocl_parser.specs.declared.states.ExprFrame.{ExprFrame};
+
+    ghost Value = { List ExprFrame };
+
+    ghost coded = { Prim.hlevel (codes, e.the_row.coded) };
+
+    ghost view = { λ f. reverse f.items.items };
+}
+
+impl ExprFrames {
+    ghost use Rattle.std.specs.Prelude.{◌≡◌, ◌∷◌, [], ℕ, ◌<◌, Bool, length, IfOk, OnOk, OnSome, MatchOption};
+    ghost use Rattle.ocl_ast.specs.Trees.{ExprTree};
+    ghost use Rattle.ocl_parser.specs.ExprSteps.{ends, settled};
+    ghost use Rattle.ocl_parser.specs.Moves.{settled_on};
+
+    /// No frames.
+    pub fn new(alloc: Global) -> ExprFrames
+        ensures { result ≡ [] }
+    {
+        ExprFrames {
+            items: Vec::new(alloc),
+        }
+    }
+
+    /// How many frames there are.
+    pub fn len(&self) -> usize
+        ensures { result ≡ length self.now }
+    {
+        self.items.len()
+    }
+
+    /// One frame more, around the next expression.
+    #[tactic(auto, using(crate::proofs::Lists::reverse_push))]
+    pub fn push(&mut self, frame: ExprFrame) -> Result<(), Memory>
+        ensures { OnOk result (self.new ≡ frame ∷ self.old) }
+    {
+        self.items.push(frame)?;
+        Ok(())
+    }
+
+    /// The innermost frame, which stays.
+    pub fn last(&self) -> Option<&ExprFrame> {
+        self.items.last()
+    }
+
+    /// The innermost frame.
+    #[tactic(auto, using(crate::proofs::Lists::reverse_push))]
+    pub fn pop(&mut self) -> Option<ExprFrame>
+        ensures none { MatchOption result (self.new ≡ []) (λ frame. Unit {0}) }
+        ensures some { MatchOption result (self.old ≡ []) (λ frame. self.old ≡ frame ∷ self.new) }
+    {
+        self.items.pop()
+    }
+
+    /// The innermost frame, where an operator of this level ends it.
+    pub fn pop_ended(&mut self, level: u32) -> Result<Option<ExprFrame>, Memory>
+        ensures settles { IfOk result (λ popped. (e : ExprTree) → settled level e self.old ≡ settled_on level popped e self.new) }
+        ensures shorter { IfOk result (λ popped. OnSome popped (length self.new < length self.old)) }
+    {
+        match self.pop() {
+            None => Ok(None),
+            Some(frame) => {
+                if ends(level, &frame) {
+                    Ok(Some(frame))
+                } else {
+                    self.push(frame)?;
+                    Ok(None)
+                }
+            }
+        }
+    }
+}
+
+/// Whether an operator of this level ends the construct, or at 0 a token that is none.
+fn ends(level: u32, frame: &ExprFrame) -> bool
+    ensures { result ≡ ends level frame.now }
+{
+    match frame {
+        ExprFrame::Unary(..) | ExprFrame::Cast(..) => true,
+        ExprFrame::Between(op, ..) => infix_level(*op) >= level,
+        ExprFrame::Other(..) => level == 0,
+        ExprFrame::Test(..) | ExprFrame::Index(..) | ExprFrame::Call(..) | ExprFrame::Paren(..) =>
+            false,
+    }
+}
+
+/// A frame, and how many levels of statements there are down to it.
+#[derive(Debug, Drop)]
+struct Leveled {
+    /// The frame.
+    frame: StmtFrame,
+    /// How many levels there are with it.
+    levels: u32,
+}
+
+/// What a statement stands in.
+#[derive(Debug, Drop)]
+pub struct StmtFrames {
+    /// The frames, the innermost last.
+    items: Vec<Leveled>,
+}
+
+impl Model for StmtFrames {
+    ghost use Rattle.std.specs.Prelude.{List, reverse, map};
+    ghost use Rattle.std.specs.Coded.{codes};
+    ghost use Rattle.ocl_parser.specs.contracts.states.StmtFrame as e;
+    ghost use Rattle.ocl_parser.specs.declared.states.StmtFrame.{StmtFrame};
+
+    ghost Value = { List StmtFrame };
+
+    ghost coded = { Prim.hlevel (codes, e.the_row.coded) };
+
+    ghost view = { λ f. reverse (map (λ x. x.frame) f.items.items) };
+}
+
+impl StmtFrames {
+    ghost use Rattle.std.specs.Prelude.{◌≡◌, ◌∷◌, [], ◌<◌, length, nat_eq, IfOk, OnOk, OnSome, MatchOption};
+    ghost use Rattle.ocl_ast.specs.Trees.{StmtTree};
+    ghost use Rattle.ocl_parser.specs.StmtSteps.{finished, and_item};
+    ghost use Rattle.ocl_parser.specs.Moves.{finished_on};
+
+    /// No frames.
+    pub fn new(alloc: Global) -> StmtFrames
+        ensures { result ≡ [] }
+    {
+        StmtFrames {
+            items: Vec::new(alloc),
+        }
+    }
+
+    /// Whether there are none.
+    pub fn is_empty(&self) -> bool
+        ensures { result ≡ nat_eq (length self.now) 0 }
+    {
+        self.items.len() == 0
+    }
+
+    /// How many levels of statements there are around the next statement.
+    pub fn levels(&self) -> u32 {
+        match self.items.last() {
+            Some(last) => last.levels,
+            None => 0,
+        }
+    }
+
+    /// How many levels there are around a statement in this frame, once it is pushed. A block that stands in another counts.
+    fn levels_with(&self, frame: &StmtFrame) -> u32 {
+        let levels = self.levels();
+        match frame {
+            StmtFrame::Block(_) => match self.items.last() {
+                Some(
+                    Leveled {
+                        frame: StmtFrame::Block(_),
+                        ..
+                    },
+                ) => levels.saturating_add(1),
+                _ => levels,
+            },
+            _ => levels.saturating_add(1),
+        }
+    }
+
+    /// One frame more, around the next statement.
+    #[tactic(auto, using(crate::proofs::Lists::reverse_map_push))]
+    pub fn push(&mut self, frame: StmtFrame) -> Result<(), Memory>
+        ensures { OnOk result (self.new ≡ frame ∷ self.old) }
+    {
+        let levels = self.levels_with(&frame);
+        self.items.push(Leveled { frame, levels })?;
+        Ok(())
+    }
+
+    /// The innermost frame.
+    #[tactic(auto, using(crate::proofs::Lists::reverse_map_push))]
+    pub fn pop(&mut self) -> Option<StmtFrame>
+        ensures none { MatchOption result (self.new ≡ []) (λ frame. Unit {0}) }
+        ensures some { MatchOption result (self.old ≡ []) (λ frame. self.old ≡ frame ∷ self.new) }
+    {
+        match self.items.pop() {
+            Some(last) => Some(last.frame),
+            None => None,
+        }
+    }
+
+    /// The innermost frame, where the end of a statement in it ends it.
+    pub fn pop_ended(&mut self, before_else: bool) -> Result<Option<StmtFrame>, Memory>
+        ensures finishes { IfOk result (λ popped. (s : StmtTree) → finished before_else s self.old ≡ finished_on before_else popped s self.new) }
+        ensures shorter { IfOk result (λ popped. OnSome popped (length self.new < length self.old)) }
+    {
+        match self.pop() {
+            None => Ok(None),
+            Some(frame) => {
+                if ends_with(before_else, &frame) {
+                    Ok(Some(frame))
+                } else {
+                    self.push(frame)?;
+                    Ok(None)
+                }
+            }
+        }
+    }
+
+    /// One item more in the innermost block.
+    pub fn push_item(&mut self, item: Statement) -> Result<(), Memory>
+        ensures { OnOk result (self.new ≡ and_item item self.old) }
+    {
+        match self.pop() {
+            Some(StmtFrame::Block(items)) => {
+                let mut items = items;
+                items.push(item)?;
+                self.push(StmtFrame::Block(items))
+            }
+            Some(other) => self.push(other),
+            None => Ok(()),
+        }
+    }
+}
+
+/// Whether the end of a statement in the construct ends it, where an `else` follows or not.
+fn ends_with(before_else: bool, frame: &StmtFrame) -> bool
+    ensures { result ≡ ends_with before_else frame.now }
+{
+    match frame {
+        StmtFrame::Then(_) => !before_else,
+        StmtFrame::Else(..) | StmtFrame::While(_) | StmtFrame::For(..) => true,
+        StmtFrame::Do | StmtFrame::Block(_) => false,
+    }
+}
