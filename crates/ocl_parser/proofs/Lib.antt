@@ -11,6 +11,7 @@ pub mod StmtComplete
 pub mod BodyComplete
 pub mod UnitComplete
 pub mod RunSteps
+pub mod CountLaws
 pub mod StmtTexts
 pub mod StmtFronts
 pub mod ItemSound

@@ -1,4 +1,5 @@
-ghost use Rattle.std.specs.Prelude.{◌≡◌, [], List, Some, None, map, if◌then◌else◌, IfOk, IfErr};
+ghost use Rattle.std.specs.Prelude.{◌≡◌, ◌≤◌, [], List, Some, None, map, length, if◌then◌else◌, IfOk, IfErr};
+ghost use Rattle.ocl_tokens.specs.declared.tokens.Token.{Token};
 ghost use Rattle.ocl_ast.specs.Shapes.{function_tree, unit_trees};
 ghost use Rattle.ocl_ast.specs.Trees.{FunctionTree};
 ghost use Rattle.ocl_parser.specs.Faults.{AreEnded, is_left_out, IsRefused, IsRefusalOf, IsStep, IsStop};
@@ -29,15 +30,22 @@ pub enum ParseFault {
 }
 
 /// The functions of a file's tokens.
-#[tactic(auto, using(crate::proofs::RunSteps::read_is))]
+#[tactic(auto, using(crate::proofs::RunSteps::read_is, crate::proofs::CountLaws::read_few))]
 pub fn parse(alloc: Global, tokens: &Tokens) -> Result<Unit, ParseFault>
     ensures derives { IfOk result (λ unit. Derives tokens.now (unit_trees unit)) }
     ensures alone { IfOk result (λ unit. (fs : List FunctionTree) → Derives tokens.now fs → unit_trees unit ≡ fs) }
+    ensures few { IfOk result (λ unit. length unit.functions ≤ length tokens.now) }
     ensures refused { IfErr result (λ fault. AreEnded tokens.now → IsRefused fault tokens.now) }
 {
     let functions = read_all(alloc, tokens.as_slice())?;
     Ok(Unit { functions })
 }
+
+/// A file has at most as many functions as tokens.
+#[tactic(auto, using(crate::proofs::CountLaws::derived_few))]
+pub fn functions_are_few()
+    ensures { (tokens : List Token) (functions : List FunctionTree) → Derives tokens functions → length functions ≤ length tokens }
+{}
 
 /// The functions that the reader makes of the tokens.
 #[tactic(auto, using(crate::proofs::RunSteps::none_ended))]

@@ -247,60 +247,119 @@ fn refusals(rt: HostRuntime) -> Result<(), Fail> {
     Ok(())
 }
 
-/// A text some number of times, then another.
-fn repeated(alloc: Global, before: &str, count: usize, after: &str) -> Result<String, AllocError> {
-    let mut text = String::new(alloc);
+/// A text some number of times.
+fn repeated(alloc: Global, text: &str, count: usize) -> Result<String, AllocError> {
+    let mut all = String::new(alloc);
     for _ in 0..count {
-        text.push_str(before)?;
+        all.push_str(text)?;
     }
-    text.push_str(after)?;
-    Ok(text)
+    Ok(all)
+}
+
+/// What a kernel is refused with in whose body words stand in one another some number of times.
+fn nested_fault(
+    alloc: Global,
+    start: &str,
+    (before, inner, behind): (&str, &str, &str),
+    end: &str,
+    count: usize,
+) -> Result<Option<ParseFault>, AllocError> {
+    let before = repeated(alloc, before, count)?;
+    let behind = repeated(alloc, behind, count)?;
+    let text = format!(in alloc; "{start}{before}{inner}{behind}{end}")?;
+    let body = body_of(alloc, text.as_str())?;
+    fault_of(alloc, body.as_str())
+}
+
+fn too_deep(col: u32) -> Option<ParseFault> {
+    Some(ParseFault::TooDeep(Pos { line: 1, col }))
 }
 
 #[test]
-fn limits(rt: HostRuntime) -> Result<(), Fail> {
+fn levels_at_their_limit(rt: HostRuntime) -> Result<(), Fail> {
     let alloc = rt.alloc();
-    for (before, most, after, col) in [
-        ("if ( 1 ) ", 30usize, "a = 1 ; ", 7 + 4 * 30),
-        ("while ( 1 ) ", 30, "; ", 7 + 4 * 30),
-        ("do ", 30, "", 7 + 30),
-        ("for ( ; ; ) ", 30, "{ ; } ", 7 + 5 * 30),
-        ("{ ", 30, "", 7 + 30),
-        ("if ( 1 ) { ", 30, "", 7 + 5 * 30),
+    for (words, col) in [
+        (("if ( 1 ) ", "a = 1 ; ", ""), 7 + 4 * 30),
+        (("if ( 1 ) ; else ", "; ", ""), 7 + 6 * 30),
+        (("while ( 1 ) ", "; ", ""), 7 + 4 * 30),
+        (("do ", "; ", "while ( 1 ) ; "), 7 + 30),
+        (("for ( ; ; ) ", "{ ; } ", ""), 7 + 5 * 30),
+        (("{ ", "", "} "), 7 + 30),
+        (("if ( 1 ) { ", "", "} "), 7 + 5 * 30),
     ] {
-        let inner = repeated(alloc, before, most, after)?;
-        let body = body_of(alloc, inner.as_str())?;
-        let fault = fault_of(alloc, body.as_str())?;
-        assert!(rt; !matches!(fault, Some(ParseFault::TooDeep(_))), "{before}");
-        let deeper = repeated(alloc, before, most.saturating_add(1), after)?;
-        let body = body_of(alloc, deeper.as_str())?;
-        let pos = Pos { line: 1, col };
         assert_eq!(rt;
-            fault_of(alloc, body.as_str())?,
-            Some(ParseFault::TooDeep(pos)),
-            "{before}"
+            nested_fault(alloc, "", words, "", 30)?,
+            None,
+            "{}",
+            words.0
+        );
+        assert_eq!(rt;
+            nested_fault(alloc, "", words, "", 31)?,
+            too_deep(col),
+            "{}",
+            words.0
         );
     }
-    for (before, most, after, col) in [
-        ("( ", 127usize, "b ", 8 + 128),
-        ("- ", 127, "b ", 8 + 128),
-        ("b - ( ", 63, "b - b ", 8 + 3 * 64),
-        ("b ? c : ", 127, "b ", 8 + 4 * 127 + 2),
-        ("f ( ", 127, "f ( ", 8 + 2 * 128 + 1),
+    Ok(())
+}
+
+#[test]
+fn heights_at_their_limit(rt: HostRuntime) -> Result<(), Fail> {
+    let alloc = rt.alloc();
+    for (words, most, col) in [
+        (("( ", "b ", ") "), 127, 8 + 128),
+        (("- ", "b ", ""), 127, 8 + 128),
+        (("( int ) ", "b ", ""), 127, 8 + 3 * 127 + 1),
+        (("b [ ", "c ", "] "), 127, 8 + 2 * 128),
+        (("b - ", "b ", ""), 127, 8 + 2 * 128),
+        (("b - ( ", "b - b ", ") "), 63, 8 + 3 * 64),
+        (("b ? c : ", "b ", ""), 127, 8 + 4 * 127 + 2),
+        (("f ( ", "f ( ) ", ") "), 127, 8 + 2 * 128 + 1),
     ] {
-        let inner = repeated(alloc, before, most, after)?;
-        let text = format!(in alloc; "a = {inner}")?;
-        let body = body_of(alloc, text.as_str())?;
-        let fault = fault_of(alloc, body.as_str())?;
-        assert!(rt; !matches!(fault, Some(ParseFault::TooDeep(_))), "{before}");
-        let deeper = repeated(alloc, before, most.saturating_add(1), after)?;
-        let text = format!(in alloc; "a = {deeper}")?;
-        let body = body_of(alloc, text.as_str())?;
-        let pos = Pos { line: 1, col };
+        let more = most + 1;
         assert_eq!(rt;
-            fault_of(alloc, body.as_str())?,
-            Some(ParseFault::TooDeep(pos)),
-            "{before}"
+            nested_fault(alloc, "a = ", words, ";", most)?,
+            None,
+            "{}",
+            words.0
+        );
+        assert_eq!(rt;
+            nested_fault(alloc, "a = ", words, ";", more)?,
+            too_deep(col),
+            "{}",
+            words.0
+        );
+    }
+    Ok(())
+}
+
+/// Each of these expressions has its own height.
+#[test]
+fn places_of_expressions(rt: HostRuntime) -> Result<(), Fail> {
+    let alloc = rt.alloc();
+    let words = ("( ", "b ", ") ");
+    for (start, length, end) in [
+        ("int x = ", 3, ";"),
+        ("local int t [ ", 4, "] ;"),
+        ("a [ ", 2, "] = c ;"),
+        ("++ a [ ", 3, "] ;"),
+        ("a [ c ] = ", 5, ";"),
+        ("f ( c , ", 4, ", c ) ;"),
+        ("if ( ", 2, ") ;"),
+        ("while ( ", 2, ") ;"),
+        ("do ; while ( ", 4, ") ;"),
+        ("for ( ; ", 3, "; ) ;"),
+        ("return ", 1, ";"),
+    ] {
+        assert_eq!(rt;
+            nested_fault(alloc, start, words, end, 127)?,
+            None,
+            "{start}"
+        );
+        assert_eq!(rt;
+            nested_fault(alloc, start, words, end, 128)?,
+            too_deep(6 + length + 128),
+            "{start}"
         );
     }
     Ok(())
