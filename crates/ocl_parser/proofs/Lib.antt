@@ -24,6 +24,7 @@ pub mod EndSteps
 pub mod Fits
 pub mod ExprLimits
 pub mod FitLaws
+pub mod StackLaws
 pub mod Closing
 pub mod Follow
 pub mod UnitClosing

@@ -13,6 +13,9 @@ use Rattle.ocl_parser.proofs.RunSteps.{never_refused}
 abbrev GoesPast : List Token → Token → List Token → Type 0
 GoesPast front t longer = (more : List Token) × (longer ≡ (front ++ (t ∷ [])) ++ more)
 
+cons_same : (u v : Token) (a b : List Token) → u ≡ v → a ≡ b → u ∷ a ≡ v ∷ b
+cons_same u v a b h e = cc
+
 -- one list in two parts each
 places : (a b : List Token) (s t : Token) (x y : List Token) → a ++ (s ∷ x) ≡ b ++ (t ∷ y) → ((a ≡ b) × (s ≡ t)) ⊎ (GoesPast a s b ⊎ GoesPast b t a)
 places [] [] s t x y e = let h : s ≡ t = cc in inl (refl, h)
@@ -22,8 +25,11 @@ places (u ∷ a) (v ∷ b) s t x y e =
     let h : u ≡ v = cc in
     let tails : a ++ (s ∷ x) ≡ b ++ (t ∷ y) = cc in
     elim (places a b s t x y tails) [
-      | inl same ↦ inl (cc, same.1)
-      | inr past ↦ elim past [ inl p ↦ inr (inl (p.0, cc)) | inr p ↦ inr (inr (p.0, cc)) ]
+      inl same ↦ inl (cons_same u v a b h same.0, same.1) |
+      inr past ↦ elim past [
+        inl p ↦ inr (inl (p.0, cons_same v u b ((a ++ (s ∷ [])) ++ p.0) (sym h) p.1)) |
+        inr p ↦ inr (inr (p.0, cons_same u v a ((b ++ (t ∷ [])) ++ p.0) h p.1))
+      ]
     ]
 
 -- No file within the limits goes on with a token that is refused.
@@ -56,7 +62,7 @@ at_place : (one other : ParseFault) (a b : List Token) (s t : Token) → IsFault
 at_place one other a b s t f g m n h =
     same_fault one other b t (subst (λ x. IsFaultOf one b x) h.1 (subst (λ front. IsFaultOf one front s) h.0 f)) g m n
 
-pub refused_once : (tokens : List Token) (one other : ParseFault) → IsRefused one tokens → IsRefused other tokens → (one ≡ Memory → ⊥) → (other ≡ Memory → ⊥) → one ≡ other
+pub refused_once : (tokens : List Token) (one other : ParseFault) (r : IsRefused one tokens) (q : IsRefused other tokens) → (one ≡ Memory → ⊥) → (other ≡ Memory → ⊥) → one ≡ other
 refused_once tokens one other r q m n =
     elim (places r.before q.before r.token q.token r.behind q.behind (sym r.whole ∙ q.whole)) [
       | inl h ↦ at_place one other r.before q.before r.token q.token r.why q.why m n h

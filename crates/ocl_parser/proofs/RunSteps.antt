@@ -45,7 +45,7 @@ stops_on t n Memory r e = absurd r
 
 -- a token with which only files beyond the limits go on
 pub too_deep : (t : Token) (n : UnitNext) (next : UnitFocus) → (HasRoom next → ⊥) → Reads next ≡ n → IsStop (TooDeep t.pos) t n
-too_deep t n next full e = subst (IsStop (TooDeep t.pos) t) e (refl, full)
+too_deep t n next full e = subst (λ m. IsStop (TooDeep t.pos) t m) e (refl, full)
 
 -- The reader stands at this focus and behind these functions once it has read the tokens.
 abbrev pub HasRead : List Token → UnitFocus → List FunctionTree → Type 0
@@ -189,7 +189,7 @@ never_faulty (Subset pos) front behind t gs s d w = absurd (s.2 behind gs d)
 never_faulty (TooDeep pos) front behind t gs s d w = absurd (s.2 behind gs d w)
 never_faulty Memory front behind t gs s d w = refl
 
-pub never_refused : (fault : ParseFault) (tokens : List Token) → IsRefused fault tokens → (gs : List FunctionTree) → Derives tokens gs → AreWithin gs → fault ≡ Memory
+pub never_refused : (fault : ParseFault) (tokens : List Token) (r : IsRefused fault tokens) (gs : List FunctionTree) → Derives tokens gs → AreWithin gs → fault ≡ Memory
 never_refused fault tokens r gs d w =
     let e : tokens ≡ (r.before ++ (r.token ∷ [])) ++ r.behind = r.whole ∙ sym (append_assoc r.before (r.token ∷ []) r.behind) in
     never_faulty fault r.before r.behind r.token gs r.why (subst (λ ts. Derives ts gs) e d) w
