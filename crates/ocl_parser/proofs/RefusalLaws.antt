@@ -25,10 +25,10 @@ places (u ∷ a) (v ∷ b) s t x y e =
     let h : u ≡ v = cc in
     let tails : a ++ (s ∷ x) ≡ b ++ (t ∷ y) = cc in
     elim (places a b s t x y tails) [
-      inl same ↦ inl (cons_same u v a b h same.0, same.1) |
-      inr past ↦ elim past [
-        inl p ↦ inr (inl (p.0, cons_same v u b ((a ++ (s ∷ [])) ++ p.0) (sym h) p.1)) |
-        inr p ↦ inr (inr (p.0, cons_same u v a ((b ++ (t ∷ [])) ++ p.0) h p.1))
+      | inl same ↦ inl (cons_same u v a b h same.0, same.1)
+      | inr past ↦ elim past [
+        | inl p ↦ inr (inl (p.0, cons_same v u b ((a ++ (s ∷ [])) ++ p.0) (sym h) p.1))
+        | inr p ↦ inr (inr (p.0, cons_same u v a ((b ++ (t ∷ [])) ++ p.0) h p.1))
       ]
     ]
 

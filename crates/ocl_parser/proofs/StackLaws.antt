@@ -1,6 +1,6 @@
 -- The innermost frame of a stack, and the levels that it counts.
 use Rattle.std.proofs.Common.{◌≡◌, ◌+◌, ◌-◌, ◌≤◌, refl, sym, ap, arith, ◌∙◌, ℕ, max, length, reverse, List, [], ◌∷◌, ◌++◌, Option, Some, None}
-use Rattle.std.proofs.lemmas.List.{reverse-append, reverse-reverse, length-append}
+use Rattle.std.proofs.lemmas.List.{reverse-append, reverse-reverse, length-append, length-reverse}
 use Rattle.std.specs.Prelude.{slice_get}
 use Rattle.ocl_ast.specs.Measures.{height, args_height}
 use Rattle.ocl_ast.specs.Shapes.{tree_of, arg_trees}
@@ -59,16 +59,23 @@ beside_most (WhileFrame test ∷ K) = omega arith
 beside_most (DoFrame ∷ K) = omega arith
 beside_most (ForFrame first test step ∷ K) = omega arith
 
-pub beside_some : (K : List StmtFrame) (f : StmtFrame) → Some f ≡ slice_get K 0 → beside K ≡ beside (f ∷ [])
+beside_some : (K : List StmtFrame) (f : StmtFrame) → Some f ≡ slice_get K 0 → beside K ≡ beside (f ∷ [])
 beside_some [] f e = cc
 beside_some (g ∷ K) f e = let h : g ≡ f = cc in alone g K ∙ ap (λ x. beside (x ∷ [])) h
 
-pub beside_none : (K : List StmtFrame) → None ≡ slice_get K 0 → beside K ≡ 0
-beside_none [] e = refl
-beside_none (g ∷ K) e = cc
+beside_empty : (K : List StmtFrame) → None ≡ slice_get K 0 → beside K ≡ 0
+beside_empty [] e = refl
+beside_empty (g ∷ K) e = cc
+
+-- the same of a list whose last element is the innermost frame
+pub beside_last : (xs : List StmtFrame) (f : StmtFrame) → Some f ≡ slice_get xs (length xs - 1) → beside (reverse xs) ≡ beside (f ∷ [])
+beside_last xs f e = beside_some (reverse xs) f (e ∙ last_first xs)
+
+pub beside_none : (xs : List StmtFrame) → None ≡ slice_get xs (length xs - 1) → beside (reverse xs) ≡ 0
+beside_none xs e = beside_empty (reverse xs) (e ∙ last_first xs)
 
 -- no more levels than frames
-pub levels_most : (K : List StmtFrame) → levels_around K ≤ length K
+levels_most : (K : List StmtFrame) → levels_around K ≤ length K
 levels_most [] = omega arith
 levels_most (BlockFrame items ∷ K) = omega (arith, levels_most K, beside_most K)
 levels_most (ThenFrame test ∷ K) = omega (arith, levels_most K)
@@ -76,6 +83,9 @@ levels_most (ElseFrame test one ∷ K) = omega (arith, levels_most K)
 levels_most (WhileFrame test ∷ K) = omega (arith, levels_most K)
 levels_most (DoFrame ∷ K) = omega (arith, levels_most K)
 levels_most (ForFrame first test step ∷ K) = omega (arith, levels_most K)
+
+pub levels_fit : (xs : List StmtFrame) → levels_around (reverse xs) ≤ length xs
+levels_fit xs = omega (arith, levels_most (reverse xs), length-reverse xs)
 
 -- the greatest height with one argument more
 pub push_height : (es : List Expr) (e : Expr) → args_height (arg_trees (es ++ (e ∷ []))) ≡ max (args_height (arg_trees es)) (height (tree_of e))

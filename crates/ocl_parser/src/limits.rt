@@ -77,6 +77,7 @@ fn least_height(focus: &ExprFocus) -> u32
 }
 
 /// The greatest height of the finished parts of the innermost frame, 0 where there are none.
+#[tactic(auto, using(crate::proofs::StackLaws::height_some, crate::proofs::StackLaws::height_none))]
 fn last_height(frames: &ExprFrames) -> u32
     ensures { result ≡ kept (last_height frames.now) }
 {

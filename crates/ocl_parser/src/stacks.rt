@@ -1,6 +1,6 @@
-ghost use Rattle.std.specs.Prelude.{◌≡◌, ◌+◌, ◌≤◌, ◌∷◌, reverse};
+ghost use Rattle.std.specs.Prelude.{◌≡◌, ◌+◌, ◌∷◌, [], reverse};
 ghost use Rattle.ocl_parser.specs.ExprSteps.{ends};
-ghost use Rattle.ocl_parser.specs.Levels.{levels_around};
+ghost use Rattle.ocl_parser.specs.Levels.{beside, levels_around};
 ghost use Rattle.ocl_parser.specs.StmtSteps.{ends_with};
 
 use crate::operators::infix_level;
@@ -31,11 +31,11 @@ impl Model for ExprFrames {
 }
 
 impl ExprFrames {
-    ghost use Rattle.std.specs.Prelude.{◌≡◌, ◌∷◌, [], ℕ, ◌<◌, Bool, List, length, IfOk, OnOk, OnSome, MatchOption};
+    ghost use Rattle.std.specs.Prelude.{◌≡◌, ◌∷◌, [], ℕ, ◌<◌, Bool, length, slice_get, IfOk, OnOk, OnSome, MatchOption};
+    ghost use Rattle.std.specs.Option.{option_copied};
     ghost use Rattle.ocl_ast.specs.Trees.{ExprTree};
     ghost use Rattle.ocl_parser.specs.ExprSteps.{ends, settled};
     ghost use Rattle.ocl_parser.specs.Moves.{settled_on};
-    ghost use Rattle.ocl_parser.specs.declared.states.ExprFrame.{ExprFrame};
 
     /// No frames.
     pub fn new(alloc: Global) -> ExprFrames
@@ -63,8 +63,9 @@ impl ExprFrames {
     }
 
     /// The innermost frame, which stays.
+    #[tactic(auto, using(crate::proofs::StackLaws::last_first))]
     pub fn last(&self) -> Option<&ExprFrame>
-        ensures { MatchOption result (self.now ≡ []) (λ frame. (K : List ExprFrame) × (self.now ≡ frame.now ∷ K)) }
+        ensures { option_copied result ≡ slice_get self.now 0 }
     {
         self.items.last()
     }
@@ -167,7 +168,7 @@ impl StmtFrames {
     }
 
     /// One frame more, around the next statement.
-    #[tactic(auto, using(crate::proofs::Lists::reverse_push))]
+    #[tactic(auto, using(crate::proofs::Lists::reverse_push, crate::proofs::StackLaws::levels_fit))]
     pub fn push(&mut self, frame: StmtFrame) -> Result<(), Memory>
         ensures { OnOk result (self.new ≡ frame ∷ self.old) }
     {
@@ -228,15 +229,32 @@ impl StmtFrames {
 
 /// How many levels a frame adds to those around it. A block that stands in another counts.
 fn levels_of(frame: &StmtFrame, around: &[StmtFrame]) -> usize
-    ensures sum { levels_around (frame.now ∷ reverse around.now) ≡ levels_around (reverse around.now) + result }
-    ensures most { result ≤ 1 }
+    ensures { levels_around (frame.now ∷ reverse around.now) ≡ levels_around (reverse around.now) + result }
 {
     match frame {
-        StmtFrame::Block(_) => match around.last() {
-            Some(StmtFrame::Block(_)) => 1,
-            _ => 0,
-        },
+        StmtFrame::Block(_) => levels_beside(around),
         _ => 1,
+    }
+}
+
+/// How many levels a block counts itself that stands in these frames.
+#[tactic(auto, using(crate::proofs::StackLaws::beside_last, crate::proofs::StackLaws::beside_none))]
+fn levels_beside(around: &[StmtFrame]) -> usize
+    ensures { result ≡ beside (reverse around.now) }
+{
+    match around.last() {
+        Some(frame) => levels_within(frame),
+        None => 0,
+    }
+}
+
+/// How many levels a block counts itself that stands in this frame.
+fn levels_within(frame: &StmtFrame) -> usize
+    ensures { result ≡ beside (frame.now ∷ []) }
+{
+    match frame {
+        StmtFrame::Block(_) => 1,
+        _ => 0,
     }
 }
 

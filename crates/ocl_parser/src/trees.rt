@@ -222,7 +222,7 @@ impl Args {
     }
 
     /// One argument more.
-    #[tactic(auto, using(crate::proofs::Lists::arg_trees_push))]
+    #[tactic(auto, using(crate::proofs::Lists::arg_trees_push, crate::proofs::StackLaws::push_height))]
     pub fn push(&mut self, arg: Tree) -> Result<(), Memory>
         ensures { OnOk result (self.new ≡ and_arg self.old arg) }
     {
