@@ -22,7 +22,14 @@ pub mod ExprOrder
 pub mod StmtOrder
 pub mod UnitOrder
 pub mod EndSteps
+pub mod Fits
+pub mod ExprLimits
+pub mod FitLaws
+pub mod StackLaws
 pub mod Closing
 pub mod Follow
 pub mod UnitClosing
+pub mod StmtLimits
+pub mod UnitLimits
 pub mod StartLaws
+pub mod RefusalLaws

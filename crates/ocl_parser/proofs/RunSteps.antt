@@ -7,7 +7,9 @@ use Rattle.ocl_ast.specs.Trees.{FunctionTree}
 use Rattle.ocl_ast.specs.declared.units.Function.{Function}
 use Rattle.ocl_tokens.specs.declared.tokens.Token.{Token}
 use Rattle.ocl_tokens.specs.declared.tokens.TokenKind.TheVariants.{End}
-use Rattle.ocl_parser.specs.Faults.{AreEnded, is_left_out, BeginNoFile, BeginSomeFile, IsFaultOf, IsRefused, IsRefusalOf, IsStep, IsStop}
+use Rattle.ocl_parser.specs.Faults.{AreEnded, is_left_out, BeginNoFile, BeginSomeFile, BeginNoneWithin, BeginSomeWithin, IsFaultOf, IsRefused, IsRefusalOf, IsStep, IsCrowded, IsStop}
+use Rattle.ocl_parser.specs.Limits.{AreWithin}
+use Rattle.ocl_parser.specs.Rooms.{HasRoom}
 use Rattle.ocl_parser.specs.Runs.{ended, go_on, run}
 use Rattle.ocl_parser.specs.Units.{Derives}
 use Rattle.ocl_parser.specs.UnitSteps.{UnitNext, Reads, Adds, Fails, unit_step}
@@ -21,10 +23,10 @@ use Rattle.ocl_parser.proofs.UnitSound.{none_some}
 use Rattle.ocl_parser.proofs.UnitOrder.{run_derives}
 use Rattle.ocl_parser.proofs.EndSteps.{EndsFile, over}
 use Rattle.ocl_parser.proofs.Closing.{Ends}
+use Rattle.ocl_parser.proofs.FitLaws.{functions_within}
+use Rattle.ocl_parser.proofs.Fits.{UnitFits, UnitNextFits, UnitRoom}
 use Rattle.ocl_parser.proofs.UnitClosing.{CanBe, CanBeNext, unit_follows, unit_ends}
-
-reads_fails : {focus : UnitFocus} → Reads focus ≡ Fails → ⊥
-reads_fails e = cc
+use Rattle.ocl_parser.proofs.UnitLimits.{RunFits, fits_room, unit_keeps, run_back}
 
 -- what a token does, told by what the code does with it
 pub step_reads : (n : UnitNext) (next : UnitFocus) (fs : List FunctionTree) → Reads next ≡ n → IsStep n next fs fs
@@ -42,8 +44,8 @@ stops_on t n (TooDeep pos) r e = absurd r
 stops_on t n Memory r e = absurd r
 
 -- a token with which only files beyond the limits go on
-pub too_deep : (t : Token) (n : UnitNext) (next : UnitFocus) → Reads next ≡ n → IsStop (TooDeep t.pos) t n
-too_deep t n next e = (refl, λ h. reads_fails (e ∙ h))
+pub too_deep : (t : Token) (n : UnitNext) (next : UnitFocus) → (HasRoom next → ⊥) → Reads next ≡ n → IsStop (TooDeep t.pos) t n
+too_deep t n next full e = subst (λ m. IsStop (TooDeep t.pos) t m) e (refl, full)
 
 -- The reader stands at this focus and behind these functions once it has read the tokens.
 abbrev pub HasRead : List Token → UnitFocus → List FunctionTree → Type 0
@@ -102,11 +104,33 @@ pub ends_more : (tokens : List Token) (i : ℕ) (t : Token) (next : UnitFocus) �
 ends_more tokens i t next h is at =
     λ before last e k. at (ap (λ (x : Token). x.kind) (sym (last_same before (take i tokens) last t (sym e ∙ one_more tokens i t h is))) ∙ k)
 
--- tokens behind which the reader stands go on to a file
+can_room : (n : UnitNext) (next : UnitFocus) (fs gs : List FunctionTree) → IsStep n next fs gs → HasRoom next → UnitRoom n
+can_room (Reads f) next fs gs s r = subst HasRoom s.0 r
+can_room (Adds f) next fs gs s r = tt
+can_room Fails next fs gs s r = absurd s
+
+can_fit : (n : UnitNext) (next : UnitFocus) (fs gs : List FunctionTree) → IsStep n next fs gs → UnitNextFits n → AreWithin fs → RunFits next gs
+can_fit (Reads f) next fs gs s x w = (subst UnitFits (sym s.0) x, subst AreWithin (sym s.1) w)
+can_fit (Adds f) next fs gs s x w = (subst UnitFits (sym s.0) tt, subst AreWithin (sym s.1) (functions_within fs f w x))
+can_fit Fails next fs gs s x w = absurd s
+
+-- within the limits before a token, and where there is room for it also behind
+pub step_fits : (t : Token) (focus next : UnitFocus) (fs gs : List FunctionTree) → IsStep (unit_step t.kind t.pos focus) next fs gs → CanBe focus → HasRoom next → RunFits focus fs →
+    RunFits next gs
+step_fits t focus next fs gs s c r x =
+    let n : UnitNext = unit_step t.kind t.pos focus in
+    can_fit n next fs gs s ((unit_keeps t.kind t.pos focus c).1 x.0 (can_room n next fs gs s r)) x.1
+
+-- tokens behind which the reader stands go on to a file, and within the limits to one within them
 begin_some : (front : List Token) (focus : UnitFocus) (fs : List FunctionTree) → HasRead front focus fs → CanBe focus → BeginSomeFile front
 begin_some front focus fs reads c =
     let x : Ends focus fs = unit_ends focus fs c in
     (x.0, x.1, run_derives (front ++ x.0) x.1 (reads x.0 ∙ x.2))
+
+begin_within : (front : List Token) (focus : UnitFocus) (fs : List FunctionTree) → HasRead front focus fs → CanBe focus → RunFits focus fs → BeginSomeWithin front
+begin_within front focus fs reads c f =
+    let x : Ends focus fs = unit_ends focus fs c in
+    (x.0, x.1, run_derives (front ++ x.0) x.1 (reads x.0 ∙ x.2), x.3 f.0 f.1)
 
 -- no file begins with tokens at which the reader stops
 begin_none : (front : List Token) (t : Token) (focus : UnitFocus) (fs : List FunctionTree) → HasRead front focus fs → unit_step t.kind t.pos focus ≡ Fails →
@@ -116,33 +140,64 @@ begin_none front t focus fs reads stops =
     none_some (sym (ap (run Outside []) (append_assoc front (t ∷ []) behind) ∙ reads (t ∷ behind) ∙ ap (λ n. go_on n fs (λ f all. run f all behind)) stops) ∙
     unit_complete ((front ++ (t ∷ [])) ++ behind) gs d)
 
--- with a token that the reader reads, a file goes on
-begin_with : (front : List Token) (t : Token) (fs : List FunctionTree) (n : UnitNext) → (n ≡ Fails → ⊥) → CanBeNext n →
+-- with a token behind which there is no room, a file goes on, but none within the limits
+begin_with : (front : List Token) (t : Token) (fs : List FunctionTree) (n : UnitNext) → IsCrowded n → CanBeNext n →
     ((ts : List Token) → run Outside [] (front ++ (t ∷ ts)) ≡ go_on n fs (λ f all. run f all ts)) → BeginSomeFile (front ++ (t ∷ []))
-begin_with front t fs (Reads f) some c reads =
+begin_with front t fs (Reads f) full c reads =
     begin_some (front ++ (t ∷ [])) f fs (λ ts. ap (run Outside []) (append_assoc front (t ∷ []) ts) ∙ reads ts) c
-begin_with front t fs (Adds f) some c reads =
-    begin_some (front ++ (t ∷ [])) Outside (fs ++ (f ∷ [])) (λ ts. ap (run Outside []) (append_assoc front (t ∷ []) ts) ∙ reads ts) tt
-begin_with front t fs Fails some c reads = absurd (some refl)
+begin_with front t fs (Adds f) full c reads = absurd full
+begin_with front t fs Fails full c reads = absurd full
+
+none_fits : (ts : List Token) (fs gs : List FunctionTree) (n : UnitNext) → IsCrowded n → CanBeNext n → AreWithin gs → go_on n fs (λ f all. run f all ts) ≡ Some gs → ⊥
+none_fits ts fs gs (Reads f) full c w e = full (fits_room f (run_back ts gs w f fs c e).0)
+none_fits ts fs gs (Adds f) full c w e = absurd full
+none_fits ts fs gs Fails full c w e = absurd full
+
+begin_beyond : (front : List Token) (t : Token) (focus : UnitFocus) (fs : List FunctionTree) → HasRead front focus fs → CanBe focus → IsCrowded (unit_step t.kind t.pos focus) →
+    BeginNoneWithin (front ++ (t ∷ []))
+begin_beyond front t focus fs reads c full =
+    λ behind gs d w.
+    let tokens : List Token = (front ++ (t ∷ [])) ++ behind in
+    let e : go_on (unit_step t.kind t.pos focus) fs (λ f all. run f all behind) ≡ Some gs
+    = sym (ap (run Outside []) (append_assoc front (t ∷ []) behind) ∙ reads (t ∷ behind)) ∙ unit_complete tokens gs d in
+    none_fits behind fs gs (unit_step t.kind t.pos focus) full (unit_follows t.kind t.pos focus c) w e
 
 why_refused : (fault : ParseFault) (front : List Token) (t : Token) (focus : UnitFocus) (fs : List FunctionTree) → HasRead front focus fs → CanBe focus →
     IsStop fault t (unit_step t.kind t.pos focus) → IsFaultOf fault front t
 why_refused (Unexpected pos) front t focus fs reads c s = (s.0, s.1, begin_none front t focus fs reads s.2)
 why_refused (Subset pos) front t focus fs reads c s = (s.0, s.1, begin_none front t focus fs reads s.2)
 why_refused (TooDeep pos) front t focus fs reads c s =
-    (s.0, begin_with front t fs (unit_step t.kind t.pos focus) s.1 (unit_follows t.kind t.pos focus c) (λ ts. reads (t ∷ ts)))
+    (s.0, begin_with front t fs (unit_step t.kind t.pos focus) s.1 (unit_follows t.kind t.pos focus c) (λ ts. reads (t ∷ ts)), begin_beyond front t focus fs reads c s.1)
 why_refused Memory front t focus fs reads c s = tt
 
 pub refused_at : (tokens : List Token) (i : ℕ) (t : Token) (focus : UnitFocus) (fs : List FunctionTree) (fault : ParseFault) → i < length tokens → t ≡ get_or tokens i t →
-    HasRead (take i tokens) focus fs → CanBe focus → IsStop fault t (unit_step t.kind t.pos focus) → IsRefused fault tokens
-refused_at tokens i t focus fs fault h is reads c stop = record {
+    HasRead (take i tokens) focus fs → CanBe focus → RunFits focus fs → IsStop fault t (unit_step t.kind t.pos focus) → IsRefused fault tokens
+refused_at tokens i t focus fs fault h is reads c f stop = record {
   before = take i tokens;
   token = t;
   behind = drop (suc i) tokens;
   whole = sym (take-append-drop i tokens) ∙ ap (λ x. take i tokens ++ x) (drop-cons tokens i t h ∙ ap (λ x. x ∷ drop (suc i) tokens) (sym is));
-  goes_on = begin_some (take i tokens) focus fs reads c;
+  goes_on = begin_within (take i tokens) focus fs reads c f;
   why = why_refused fault (take i tokens) t focus fs reads c stop;
 }
+
+-- a refusal of tokens that some file within the limits has
+never_faulty : (fault : ParseFault) (front behind : List Token) (t : Token) (gs : List FunctionTree) → IsFaultOf fault front t → Derives ((front ++ (t ∷ [])) ++ behind) gs →
+    AreWithin gs → fault ≡ Memory
+never_faulty (Unexpected pos) front behind t gs s d w = absurd (s.2 behind gs d)
+never_faulty (Subset pos) front behind t gs s d w = absurd (s.2 behind gs d)
+never_faulty (TooDeep pos) front behind t gs s d w = absurd (s.2 behind gs d w)
+never_faulty Memory front behind t gs s d w = refl
+
+pub never_refused : (fault : ParseFault) (tokens : List Token) (r : IsRefused fault tokens) (gs : List FunctionTree) → Derives tokens gs → AreWithin gs → fault ≡ Memory
+never_refused fault tokens r gs d w =
+    let e : tokens ≡ (r.before ++ (r.token ∷ [])) ++ r.behind = r.whole ∙ sym (append_assoc r.before (r.token ∷ []) r.behind) in
+    never_faulty fault r.before r.behind r.token gs r.why (subst (λ ts. Derives ts gs) e d) w
+
+pub token_stops : (tokens : List Token) (i : ℕ) (t : Token) (focus : UnitFocus) (fs : List FunctionTree) (fault : ParseFault) → i < length tokens → t ≡ get_or tokens i t →
+    HasRead (take i tokens) focus fs → CanBe focus → RunFits focus fs → IsStop fault t (unit_step t.kind t.pos focus) →
+    (gs : List FunctionTree) → Derives tokens gs → AreWithin gs → fault ≡ Memory
+token_stops tokens i t focus fs fault h is reads c f stop = never_refused fault tokens (refused_at tokens i t focus fs fault h is reads c f stop)
 
 -- all tokens
 all_tokens : (tokens : List Token) (i : ℕ) → length tokens ≤ i → i ≤ length tokens → take i tokens ≡ tokens
@@ -160,3 +215,9 @@ read_whole tokens i focus fs low high reads e =
 
 pub read_is : (tokens : List Token) (gs : List FunctionTree) → run Outside [] tokens ≡ Some gs → (fs : List FunctionTree) → Derives tokens fs → gs ≡ fs
 read_is tokens gs e fs d = some_inj (sym e ∙ unit_complete tokens fs d)
+
+-- tokens that do not end a file are no text of one
+pub no_text : (tokens : List Token) (i : ℕ) (focus : UnitFocus) (fs : List FunctionTree) → length tokens ≤ i → i ≤ length tokens → HasRead (take i tokens) focus fs →
+    ended focus fs ≡ None → (gs : List FunctionTree) → Derives tokens gs → ⊥
+no_text tokens i focus fs low high reads e gs d =
+    none_some (sym (ap (run Outside []) (sym (append-nil tokens) ∙ ap (λ front. front ++ []) (sym (all_tokens tokens i low high))) ∙ reads [] ∙ e) ∙ unit_complete tokens gs d)

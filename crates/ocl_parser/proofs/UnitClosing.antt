@@ -1,5 +1,5 @@
 -- Each state that the reader reaches goes on to the end of a file.
-use Rattle.std.proofs.Common.{refl, Bool, true, false, ◌||◌, ℕ, List, [], ◌∷◌, Option, Some, None}
+use Rattle.std.proofs.Common.{refl, arith, Bool, true, false, ◌||◌, ℕ, List, [], ◌∷◌, Option, Some, None}
 use Rattle.vx_base.specs.declared.types.Elem.{Elem}
 use Rattle.vx_base.specs.declared.types.ParamKind.{ParamKind}
 use Rattle.vx_base.specs.declared.types.ParamKind.TheVariants.{Scalar as ScalarKind, Pointer}
@@ -43,66 +43,66 @@ CanBeNext Fails = Unit {0}
 -- to the end from within a function's head
 closed_ends : (head : Head) (ps : List Param) (fs : List FunctionTree) → Ends (ParamsClosed head ps) fs
 closed_ends head ps fs =
-    reads_ends (MarkKind OpenBrace) (ParamsClosed head ps) (Inside head ps ItemStart (BlockFrame NoStmts ∷ [])) fs refl
+    reads_ends (MarkKind OpenBrace) (ParamsClosed head ps) (Inside head ps ItemStart (BlockFrame NoStmts ∷ [])) fs refl (λ x. (omega arith, ((omega arith, tt), tt)))
     (item_ends (BlockFrame NoStmts ∷ []) tt tt head ps fs)
 
 named_ends : (head : Head) (ps : List Param) (fs : List FunctionTree) → Ends (ParamNamed head ps) fs
-named_ends head ps fs = reads_ends (MarkKind CloseParen) (ParamNamed head ps) (ParamsClosed head ps) fs refl (closed_ends head ps fs)
+named_ends head ps fs = reads_ends (MarkKind CloseParen) (ParamNamed head ps) (ParamsClosed head ps) fs refl (λ x. tt) (closed_ends head ps fs)
 
 starred_ends : (head : Head) (ps : List Param) (kind : ParamKind) (constant : Bool) (fs : List FunctionTree) → Ends (Starred head ps kind constant) fs
 starred_ends head ps kind constant fs =
     let qs : List Param = and_param ps [] somewhere kind constant in
-    reads_ends (NameKind []) (Starred head ps kind constant) (ParamNamed head qs) fs refl (named_ends head qs fs)
+    reads_ends (NameKind []) (Starred head ps kind constant) (ParamNamed head qs) fs refl (λ x. tt) (named_ends head qs fs)
 
 type_ends : (space : Option Space) (head : Head) (ps : List Param) (constant : Bool) (elem : Elem) (fs : List FunctionTree) → Ends (ParamType head ps space constant elem) fs
 type_ends None head ps constant elem fs =
     let qs : List Param = and_param ps [] somewhere (ScalarKind elem) constant in
-    reads_ends (NameKind []) (ParamType head ps None constant elem) (ParamNamed head qs) fs refl (named_ends head qs fs)
+    reads_ends (NameKind []) (ParamType head ps None constant elem) (ParamNamed head qs) fs refl (λ x. tt) (named_ends head qs fs)
 type_ends (Some space) head ps constant elem fs =
     let kind : ParamKind = Pointer space elem (constant || is_constant space) in
-    reads_ends (MarkKind Star) (ParamType head ps (Some space) constant elem) (Starred head ps kind false) fs refl (starred_ends head ps kind false fs)
+    reads_ends (MarkKind Star) (ParamType head ps (Some space) constant elem) (Starred head ps kind false) fs refl (λ x. tt) (starred_ends head ps kind false fs)
 
 scalar_ends : (head : Head) (ps : List Param) (space : Option Space) (constant : Bool) (s : Scalar) (fs : List FunctionTree) → Ends (ParamScalar head ps space constant s) fs
 scalar_ends head ps None constant s fs =
     let qs : List Param = and_param ps [] somewhere (ScalarKind (scalar_elem s)) constant in
-    reads_ends (NameKind []) (ParamScalar head ps None constant s) (ParamNamed head qs) fs refl (named_ends head qs fs)
+    reads_ends (NameKind []) (ParamScalar head ps None constant s) (ParamNamed head qs) fs refl (λ x. tt) (named_ends head qs fs)
 scalar_ends head ps (Some space) constant s fs =
     let kind : ParamKind = Pointer space (scalar_elem s) (constant || is_constant space) in
-    reads_ends (MarkKind Star) (ParamScalar head ps (Some space) constant s) (Starred head ps kind false) fs refl (starred_ends head ps kind false fs)
+    reads_ends (MarkKind Star) (ParamScalar head ps (Some space) constant s) (Starred head ps kind false) fs refl (λ x. tt) (starred_ends head ps kind false fs)
 
 head_ends : (head : Head) (fs : List FunctionTree) → Ends (HeadNamed head) fs
 head_ends head fs =
-    reads_ends (MarkKind OpenParen) (HeadNamed head) (ParamsOpen head) fs refl
-    (reads_ends (MarkKind CloseParen) (ParamsOpen head) (ParamsClosed head []) fs refl (closed_ends head [] fs))
+    reads_ends (MarkKind OpenParen) (HeadNamed head) (ParamsOpen head) fs refl (λ x. tt)
+    (reads_ends (MarkKind CloseParen) (ParamsOpen head) (ParamsClosed head []) fs refl (λ x. tt) (closed_ends head [] fs))
 
 read_ends : (kernel : Bool) (gives : Gives) (fs : List FunctionTree) → Ends (HeadRead kernel gives) fs
 read_ends kernel gives fs =
     let head : Head = record { kernel = kernel; gives = gives; name = some_name } in
-    reads_ends (NameKind []) (HeadRead kernel gives) (HeadNamed head) fs refl (head_ends head fs)
+    reads_ends (NameKind []) (HeadRead kernel gives) (HeadNamed head) fs refl (λ x. tt) (head_ends head fs)
 
 gives_ends : (s : Scalar) (fs : List FunctionTree) → Ends (GivesRead s) fs
 gives_ends s fs =
     let head : Head = record { kernel = false; gives = Value (scalar_elem s); name = some_name } in
-    reads_ends (NameKind []) (GivesRead s) (HeadNamed head) fs refl (head_ends head fs)
+    reads_ends (NameKind []) (GivesRead s) (HeadNamed head) fs refl (λ x. tt) (head_ends head fs)
 
 pub unit_ends : (focus : UnitFocus) (fs : List FunctionTree) → CanBe focus → Ends focus fs
 unit_ends Outside fs c = outside_ends fs
-unit_ends KernelRead fs c = reads_ends (WordKind Void) KernelRead (HeadRead true Nothing) fs refl (read_ends true Nothing fs)
-unit_ends HelperWords fs c = reads_ends (WordKind Void) HelperWords (HeadRead false Nothing) fs refl (read_ends false Nothing fs)
+unit_ends KernelRead fs c = reads_ends (WordKind Void) KernelRead (HeadRead true Nothing) fs refl (λ x. tt) (read_ends true Nothing fs)
+unit_ends HelperWords fs c = reads_ends (WordKind Void) HelperWords (HeadRead false Nothing) fs refl (λ x. tt) (read_ends false Nothing fs)
 unit_ends (GivesRead s) fs c = gives_ends s fs
 unit_ends (HeadRead kernel gives) fs c = read_ends kernel gives fs
 unit_ends (HeadNamed head) fs c = head_ends head fs
-unit_ends (ParamsOpen head) fs c = reads_ends (MarkKind CloseParen) (ParamsOpen head) (ParamsClosed head []) fs refl (closed_ends head [] fs)
-unit_ends (VoidRead head) fs c = reads_ends (MarkKind CloseParen) (VoidRead head) (ParamsClosed head []) fs refl (closed_ends head [] fs)
+unit_ends (ParamsOpen head) fs c = reads_ends (MarkKind CloseParen) (ParamsOpen head) (ParamsClosed head []) fs refl (λ x. tt) (closed_ends head [] fs)
+unit_ends (VoidRead head) fs c = reads_ends (MarkKind CloseParen) (VoidRead head) (ParamsClosed head []) fs refl (λ x. tt) (closed_ends head [] fs)
 unit_ends (ParamWords head ps space constant) fs c =
-    reads_ends (WordKind Int) (ParamWords head ps space constant) (ParamScalar head ps space constant (Ints NoSign)) fs refl (scalar_ends head ps space constant (Ints NoSign) fs)
+    reads_ends (WordKind Int) (ParamWords head ps space constant) (ParamScalar head ps space constant (Ints NoSign)) fs refl (λ x. tt) (scalar_ends head ps space constant (Ints NoSign) fs)
 unit_ends (ParamScalar head ps space constant s) fs c = scalar_ends head ps space constant s fs
 unit_ends (ParamType head ps space constant elem) fs c = type_ends space head ps constant elem fs
 unit_ends (Starred head ps kind constant) fs c = starred_ends head ps kind constant fs
 unit_ends (ParamNamed head ps) fs c = named_ends head ps fs
 unit_ends (ParamsClosed head ps) fs c = closed_ends head ps fs
 unit_ends (Inside head ps focus K) fs c = stmt_ends focus K c.0 c.1 head ps fs
-unit_ends AtEnd fs c = ([], fs, refl)
+unit_ends AtEnd fs c = ([], fs, refl, λ u w. w)
 
 -- the head
 gives_follows : (o : Option Scalar) → CanBeNext (gives_read o)

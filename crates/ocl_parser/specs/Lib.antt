@@ -9,5 +9,9 @@ pub mod StmtSteps
 pub mod UnitSteps
 pub mod Moves
 pub mod Runs
+pub mod Counts
+pub mod Limits
+pub mod Levels
+pub mod Rooms
 pub mod Faults
 pub mod Starts

@@ -23,6 +23,7 @@ pub mod ends;
 pub mod expr_steps;
 pub mod heads;
 pub mod items;
+pub mod laws;
 pub mod limits;
 pub mod moves;
 pub mod names;

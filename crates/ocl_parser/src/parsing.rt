@@ -3,6 +3,8 @@ ghost use Rattle.ocl_tokens.specs.declared.tokens.Token.{Token};
 ghost use Rattle.ocl_ast.specs.Shapes.{function_tree, unit_trees};
 ghost use Rattle.ocl_ast.specs.Trees.{FunctionTree};
 ghost use Rattle.ocl_parser.specs.Faults.{AreEnded, is_left_out, IsRefused, IsRefusalOf, IsStep, IsStop};
+ghost use Rattle.ocl_parser.specs.Limits.{AreWithin};
+ghost use Rattle.ocl_parser.specs.Rooms.{HasRoom};
 ghost use Rattle.ocl_parser.specs.Runs.{run, ended};
 ghost use Rattle.ocl_parser.specs.Units.{Derives};
 ghost use Rattle.ocl_parser.specs.UnitSteps.{unit_step};
@@ -35,7 +37,9 @@ pub fn parse(alloc: Global, tokens: &Tokens) -> Result<Unit, ParseFault>
     ensures derives { IfOk result (λ unit. Derives tokens.now (unit_trees unit)) }
     ensures alone { IfOk result (λ unit. (fs : List FunctionTree) → Derives tokens.now fs → unit_trees unit ≡ fs) }
     ensures few { IfOk result (λ unit. length unit.functions ≤ length tokens.now) }
+    ensures within { IfOk result (λ unit. AreWithin (unit_trees unit)) }
     ensures refused { IfErr result (λ fault. AreEnded tokens.now → IsRefused fault tokens.now) }
+    ensures read { IfErr result (λ fault. (fs : List FunctionTree) → Derives tokens.now fs → AreWithin fs → fault ≡ ParseFault.Memory) }
 {
     let functions = read_all(alloc, tokens.as_slice())?;
     Ok(Unit { functions })
@@ -51,7 +55,9 @@ pub fn functions_are_few()
 #[tactic(auto, using(crate::proofs::RunSteps::none_ended))]
 fn read_all(alloc: Global, tokens: &[Token]) -> Result<FunctionList, ParseFault>
     ensures functions { IfOk result (λ functions. run UnitFocus.Outside [] tokens.now ≡ Some (map function_tree functions)) }
+    ensures within { IfOk result (λ functions. AreWithin (map function_tree functions)) }
     ensures refused { IfErr result (λ fault. AreEnded tokens.now → IsRefused fault tokens.now) }
+    ensures read { IfErr result (λ fault. (fs : List FunctionTree) → Derives tokens.now fs → AreWithin fs → fault ≡ ParseFault.Memory) }
 {
     let mut functions = FunctionList {
         items: Vec::new(alloc),
@@ -91,6 +97,7 @@ fn read_token(
     functions: &mut FunctionList,
 ) -> Result<UnitFocus, ParseFault>
     ensures goes { IfOk result (λ next. IsStep (unit_step token.now.kind token.now.pos focus) next (map function_tree functions.old) (map function_tree functions.new)) }
+    ensures room { IfOk result (λ next. HasRoom next) }
     ensures stops { IfErr result (λ fault. IsStop fault token.now (unit_step token.now.kind token.now.pos focus)) }
 {
     match unit_step(alloc, &token.kind, token.pos, focus) {

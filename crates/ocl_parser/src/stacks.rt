@@ -1,5 +1,6 @@
-ghost use Rattle.std.specs.Prelude.{◌≡◌};
+ghost use Rattle.std.specs.Prelude.{◌≡◌, ◌+◌, ◌∷◌, [], reverse};
 ghost use Rattle.ocl_parser.specs.ExprSteps.{ends};
+ghost use Rattle.ocl_parser.specs.Levels.{beside, levels_around};
 ghost use Rattle.ocl_parser.specs.StmtSteps.{ends_with};
 
 use crate::operators::infix_level;
@@ -30,7 +31,8 @@ impl Model for ExprFrames {
 }
 
 impl ExprFrames {
-    ghost use Rattle.std.specs.Prelude.{◌≡◌, ◌∷◌, [], ℕ, ◌<◌, Bool, length, IfOk, OnOk, OnSome, MatchOption};
+    ghost use Rattle.std.specs.Prelude.{◌≡◌, ◌∷◌, [], ℕ, ◌<◌, Bool, length, slice_get, IfOk, OnOk, OnSome, MatchOption};
+    ghost use Rattle.std.specs.Option.{option_copied};
     ghost use Rattle.ocl_ast.specs.Trees.{ExprTree};
     ghost use Rattle.ocl_parser.specs.ExprSteps.{ends, settled};
     ghost use Rattle.ocl_parser.specs.Moves.{settled_on};
@@ -61,7 +63,10 @@ impl ExprFrames {
     }
 
     /// The innermost frame, which stays.
-    pub fn last(&self) -> Option<&ExprFrame> {
+    #[tactic(auto, using(crate::proofs::StackLaws::last_first))]
+    pub fn last(&self) -> Option<&ExprFrame>
+        ensures { option_copied result ≡ slice_get self.now 0 }
+    {
         self.items.last()
     }
 
@@ -106,38 +111,35 @@ fn ends(level: u32, frame: &ExprFrame) -> bool
     }
 }
 
-/// A frame, and how many levels of statements there are down to it.
-#[derive(Debug, Drop)]
-struct Leveled {
-    /// The frame.
-    frame: StmtFrame,
-    /// How many levels there are with it.
-    levels: u32,
-}
-
 /// What a statement stands in.
 #[derive(Debug, Drop)]
 pub struct StmtFrames {
     /// The frames, the innermost last.
-    items: Vec<Leveled>,
+    items: Vec<StmtFrame>,
+    /// How many levels of statements there are around the next statement.
+    levels: usize,
 }
 
 impl Model for StmtFrames {
-    ghost use Rattle.std.specs.Prelude.{List, reverse, map};
+    ghost use Rattle.std.specs.Prelude.{◌≡◌, List, reverse};
     ghost use Rattle.std.specs.Coded.{codes};
     ghost use Rattle.ocl_parser.specs.contracts.states.StmtFrame as e;
     ghost use Rattle.ocl_parser.specs.declared.states.StmtFrame.{StmtFrame};
+    ghost use Rattle.ocl_parser.specs.Levels.{levels_around};
 
     ghost Value = { List StmtFrame };
 
     ghost coded = { Prim.hlevel (codes, e.the_row.coded) };
 
-    ghost view = { λ f. reverse (map (λ x. x.frame) f.items.items) };
+    ghost view = { λ f. reverse f.items.items };
+
+    ghost invariant = { λ f. f.levels ≡ levels_around (reverse f.items.items) };
 }
 
 impl StmtFrames {
     ghost use Rattle.std.specs.Prelude.{◌≡◌, ◌∷◌, [], ◌<◌, length, nat_eq, IfOk, OnOk, OnSome, MatchOption};
     ghost use Rattle.ocl_ast.specs.Trees.{StmtTree};
+    ghost use Rattle.ocl_parser.specs.Levels.{levels_around};
     ghost use Rattle.ocl_parser.specs.StmtSteps.{finished, and_item};
     ghost use Rattle.ocl_parser.specs.Moves.{finished_on};
 
@@ -147,6 +149,7 @@ impl StmtFrames {
     {
         StmtFrames {
             items: Vec::new(alloc),
+            levels: 0,
         }
     }
 
@@ -158,48 +161,34 @@ impl StmtFrames {
     }
 
     /// How many levels of statements there are around the next statement.
-    pub fn levels(&self) -> u32 {
-        match self.items.last() {
-            Some(last) => last.levels,
-            None => 0,
-        }
-    }
-
-    /// How many levels there are around a statement in this frame, once it is pushed. A block that stands in another counts.
-    fn levels_with(&self, frame: &StmtFrame) -> u32 {
-        let levels = self.levels();
-        match frame {
-            StmtFrame::Block(_) => match self.items.last() {
-                Some(
-                    Leveled {
-                        frame: StmtFrame::Block(_),
-                        ..
-                    },
-                ) => levels.saturating_add(1),
-                _ => levels,
-            },
-            _ => levels.saturating_add(1),
-        }
+    pub fn levels(&self) -> usize
+        ensures { result ≡ levels_around self.now }
+    {
+        self.levels
     }
 
     /// One frame more, around the next statement.
-    #[tactic(auto, using(crate::proofs::Lists::reverse_map_push))]
+    #[tactic(auto, using(crate::proofs::Lists::reverse_push, crate::proofs::StackLaws::levels_fit))]
     pub fn push(&mut self, frame: StmtFrame) -> Result<(), Memory>
         ensures { OnOk result (self.new ≡ frame ∷ self.old) }
     {
-        let levels = self.levels_with(&frame);
-        self.items.push(Leveled { frame, levels })?;
+        let more = levels_of(&frame, &self.items);
+        self.items.push(frame)?;
+        self.levels += more;
         Ok(())
     }
 
     /// The innermost frame.
-    #[tactic(auto, using(crate::proofs::Lists::reverse_map_push))]
+    #[tactic(auto, using(crate::proofs::Lists::reverse_push))]
     pub fn pop(&mut self) -> Option<StmtFrame>
         ensures none { MatchOption result (self.new ≡ []) (λ frame. Unit {0}) }
         ensures some { MatchOption result (self.old ≡ []) (λ frame. self.old ≡ frame ∷ self.new) }
     {
         match self.items.pop() {
-            Some(last) => Some(last.frame),
+            Some(frame) => {
+                self.levels -= levels_of(&frame, &self.items);
+                Some(frame)
+            }
             None => None,
         }
     }
@@ -235,6 +224,37 @@ impl StmtFrames {
             Some(other) => self.push(other),
             None => Ok(()),
         }
+    }
+}
+
+/// How many levels a frame adds to those around it. A block that stands in another counts.
+fn levels_of(frame: &StmtFrame, around: &[StmtFrame]) -> usize
+    ensures { levels_around (frame.now ∷ reverse around.now) ≡ levels_around (reverse around.now) + result }
+{
+    match frame {
+        StmtFrame::Block(_) => levels_beside(around),
+        _ => 1,
+    }
+}
+
+/// How many levels a block counts itself that stands in these frames.
+#[tactic(auto, using(crate::proofs::StackLaws::beside_last, crate::proofs::StackLaws::beside_none))]
+fn levels_beside(around: &[StmtFrame]) -> usize
+    ensures { result ≡ beside (reverse around.now) }
+{
+    match around.last() {
+        Some(frame) => levels_within(frame),
+        None => 0,
+    }
+}
+
+/// How many levels a block counts itself that stands in this frame.
+fn levels_within(frame: &StmtFrame) -> usize
+    ensures { result ≡ beside (frame.now ∷ []) }
+{
+    match frame {
+        StmtFrame::Block(_) => 1,
+        _ => 0,
     }
 }
 

@@ -14,26 +14,33 @@ pub struct Tree {
     /// The expression.
     expr: Expr,
     /// Its height.
-    height: u32,
+    kept_height: u32,
 }
 
 impl Model for Tree {
+    ghost use Rattle.std.specs.Prelude.{◌≡◌};
     ghost use Rattle.std.specs.Coded.{codes};
     ghost use Rattle.ocl_ast.specs.ExprCodes.{expr_code};
     ghost use Rattle.ocl_ast.specs.Shapes.{tree_of};
+    ghost use Rattle.ocl_ast.specs.Measures.{height};
     ghost use Rattle.ocl_ast.specs.Trees.{ExprTree};
+    ghost use Rattle.ocl_parser.specs.Counts.{kept};
 
     ghost Value = { ExprTree };
 
     ghost coded = { expr_code (Prim.hlevel codes) };
 
     ghost view = { λ t. tree_of t.expr };
+
+    ghost invariant = { λ t. t.kept_height ≡ kept (height (tree_of t.expr)) };
 }
 
 impl Tree {
     ghost use Rattle.std.specs.Prelude.{◌≡◌, IfOk};
+    ghost use Rattle.ocl_ast.specs.Measures.{height};
     ghost use Rattle.ocl_ast.specs.Shapes.{tree_of};
     ghost use Rattle.ocl_ast.specs.Trees.{NumberTree, NameTree, UnaryTree, ChooseTree, CastTree, IndexTree, CallTree, ParenTree};
+    ghost use Rattle.ocl_parser.specs.Counts.{kept};
     ghost use Rattle.ocl_parser.specs.ExprSteps.{infix_tree};
 
     /// A number.
@@ -45,7 +52,10 @@ impl Tree {
             unsigned,
             pos,
         };
-        Tree { expr, height: 1 }
+        Tree {
+            expr,
+            kept_height: 1,
+        }
     }
 
     /// A name.
@@ -53,16 +63,19 @@ impl Tree {
         ensures { result ≡ NameTree name }
     {
         let expr = Expr::Name(name);
-        Tree { expr, height: 1 }
+        Tree {
+            expr,
+            kept_height: 1,
+        }
     }
 
     /// An operator before its operand.
     pub fn unary(alloc: Global, op: UnOp, part: Tree, pos: Pos) -> Result<Tree, Memory>
         ensures { IfOk result (λ t. t ≡ UnaryTree op part pos) }
     {
-        let height = part.height.saturating_add(1);
+        let kept_height = part.kept_height.saturating_add(1);
         let expr = nodes::unary(alloc, op, part.expr, pos)?;
-        Ok(Tree { expr, height })
+        Ok(Tree { expr, kept_height })
     }
 
     /// An operator between its operands.
@@ -75,13 +88,13 @@ impl Tree {
     ) -> Result<Tree, Memory>
         ensures { IfOk result (λ t. t ≡ infix_tree op left right pos) }
     {
-        let height = left.height.max(right.height).saturating_add(1);
+        let kept_height = left.kept_height.max(right.kept_height).saturating_add(1);
         let expr = match op {
             Infix::Op(op) => nodes::binary(alloc, op, left.expr, right.expr, pos)?,
             Infix::Both => nodes::both(alloc, left.expr, right.expr, pos)?,
             Infix::Either => nodes::either(alloc, left.expr, right.expr, pos)?,
         };
-        Ok(Tree { expr, height })
+        Ok(Tree { expr, kept_height })
     }
 
     /// `test ? one : other`.
@@ -94,54 +107,56 @@ impl Tree {
     ) -> Result<Tree, Memory>
         ensures { IfOk result (λ t. t ≡ ChooseTree test one other pos) }
     {
-        let height = test
-            .height
-            .max(one.height)
-            .max(other.height)
+        let kept_height = test
+            .kept_height
+            .max(one.kept_height)
+            .max(other.kept_height)
             .saturating_add(1);
         let expr = nodes::choose(alloc, test.expr, one.expr, other.expr, pos)?;
-        Ok(Tree { expr, height })
+        Ok(Tree { expr, kept_height })
     }
 
     /// A cast.
     pub fn cast(alloc: Global, elem: Elem, part: Tree, pos: Pos) -> Result<Tree, Memory>
         ensures { IfOk result (λ t. t ≡ CastTree elem part pos) }
     {
-        let height = part.height.saturating_add(1);
+        let kept_height = part.kept_height.saturating_add(1);
         let expr = nodes::cast(alloc, elem, part.expr, pos)?;
-        Ok(Tree { expr, height })
+        Ok(Tree { expr, kept_height })
     }
 
     /// An element of an array.
     pub fn index(alloc: Global, array: Ident, place: Tree, pos: Pos) -> Result<Tree, Memory>
         ensures { IfOk result (λ t. t ≡ IndexTree array place pos) }
     {
-        let height = place.height.saturating_add(1);
+        let kept_height = place.kept_height.saturating_add(1);
         let expr = nodes::index(alloc, array, place.expr, pos)?;
-        Ok(Tree { expr, height })
+        Ok(Tree { expr, kept_height })
     }
 
     /// A call of a function.
     pub fn call(name: Ident, args: Args) -> Tree
         ensures { result ≡ CallTree name args }
     {
-        let height = args.height.saturating_add(1);
+        let kept_height = args.kept_height.saturating_add(1);
         let expr = nodes::call(name, args.items);
-        Tree { expr, height }
+        Tree { expr, kept_height }
     }
 
     /// An expression in parentheses.
     pub fn paren(alloc: Global, part: Tree, pos: Pos) -> Result<Tree, Memory>
         ensures { IfOk result (λ t. t ≡ ParenTree part pos) }
     {
-        let height = part.height.saturating_add(1);
+        let kept_height = part.kept_height.saturating_add(1);
         let expr = nodes::paren(alloc, part.expr, pos)?;
-        Ok(Tree { expr, height })
+        Ok(Tree { expr, kept_height })
     }
 
     /// Its height, up to the type's greatest number.
-    pub fn height(&self) -> u32 {
-        self.height
+    pub fn height(&self) -> u32
+        ensures { result ≡ kept (height self.now) }
+    {
+        self.kept_height
     }
 
     /// The expression.
@@ -168,25 +183,32 @@ pub struct Args {
     /// The arguments in order.
     items: ExprList,
     /// The greatest height, 0 where there are none.
-    height: u32,
+    kept_height: u32,
 }
 
 impl Model for Args {
+    ghost use Rattle.std.specs.Prelude.{◌≡◌};
     ghost use Rattle.std.specs.Coded.{codes};
     ghost use Rattle.ocl_ast.specs.ExprCodes.{args_code};
     ghost use Rattle.ocl_ast.specs.Shapes.{arg_trees};
+    ghost use Rattle.ocl_ast.specs.Measures.{args_height};
     ghost use Rattle.ocl_ast.specs.Trees.{ArgTrees};
+    ghost use Rattle.ocl_parser.specs.Counts.{kept};
 
     ghost Value = { ArgTrees };
 
     ghost coded = { args_code (Prim.hlevel codes) };
 
     ghost view = { λ t. arg_trees t.items.items };
+
+    ghost invariant = { λ t. t.kept_height ≡ kept (args_height (arg_trees t.items.items)) };
 }
 
 impl Args {
     ghost use Rattle.std.specs.Prelude.{◌≡◌, OnOk};
+    ghost use Rattle.ocl_ast.specs.Measures.{args_height};
     ghost use Rattle.ocl_ast.specs.Trees.{NoArgs};
+    ghost use Rattle.ocl_parser.specs.Counts.{kept};
     ghost use Rattle.ocl_parser.specs.ExprSteps.{and_arg};
 
     /// No arguments.
@@ -195,24 +217,26 @@ impl Args {
     {
         Args {
             items: Vec::new(alloc),
-            height: 0,
+            kept_height: 0,
         }
     }
 
     /// One argument more.
-    #[tactic(auto, using(crate::proofs::Lists::arg_trees_push))]
+    #[tactic(auto, using(crate::proofs::Lists::arg_trees_push, crate::proofs::StackLaws::push_height))]
     pub fn push(&mut self, arg: Tree) -> Result<(), Memory>
         ensures { OnOk result (self.new ≡ and_arg self.old arg) }
     {
-        let height = self.height.max(arg.height);
+        let kept_height = self.kept_height.max(arg.kept_height);
         self.items.push(arg.expr)?;
-        self.height = height;
+        self.kept_height = kept_height;
         Ok(())
     }
 
     /// The greatest height among them, up to the type's greatest number, and 0 where there are none.
-    pub fn height(&self) -> u32 {
-        self.height
+    pub fn height(&self) -> u32
+        ensures { result ≡ kept (args_height self.now) }
+    {
+        self.kept_height
     }
 }
 
