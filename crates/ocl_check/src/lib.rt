@@ -4,4 +4,9 @@
 //! a file with their limits.
 #![tactic(auto)]
 
+pub mod bodies;
+pub mod file;
 pub mod stmts;
+
+pub use file::check;
+pub use ocl_types::{Counted, Program, TypeFault};
