@@ -1,4 +1,4 @@
-use Rattle.std.proofs.Common.{◌≡◌, ◌+◌, ◌<◌, ap, arith, rules}
+use Rattle.std.proofs.Common.{◌≡◌, ◌+◌, ◌<◌, ap, arith}
 use Rattle.ocl_ast.specs.Shapes.{stmt_tree, stmt_trees, tree_of}
 use Rattle.ocl_ast.specs.Trees.{BlockTree, ForTree}
 use Rattle.std.specs.Option.{option_map}
@@ -14,7 +14,7 @@ pub typed_stmt-typed_for-requires : goal.typed_stmt-typed_for-requires
 typed_stmt-typed_for-requires t c =
     let first = c.deref-in-For.result.now in let step = c.deref-in-For-2.result.now in let body = c.deref-in-For-3.result.now in
     let whole : size (stmt_tree c.args.stmt.now) ≡ sizes (stmt_trees first) + sizes (stmt_trees step) + size (stmt_tree body) + 2 =
-        ap size (for_is c.args.stmt.now c.in-For.first c.in-For.test c.in-For.step c.in-For.body first step body c.in-For.is c.deref-in-For.ensures.value c.deref-in-For-2.ensures.value c.deref-in-For-3.ensures) in
+    ap size (for_is c.args.stmt.now c.in-For.first c.in-For.test c.in-For.step c.in-For.body first step body c.in-For.is c.deref-in-For.ensures.value c.deref-in-For-2.ensures.value c.deref-in-For-3.ensures) in
     let smaller : sizes (stmt_trees first) + sizes (stmt_trees step) + size (stmt_tree body) + 1 < t = omega (arith, whole) in
     (smaller, c.requires)
 
@@ -35,12 +35,12 @@ pub typed_stmt-returns-in-For : goal.typed_stmt-returns-in-For
 typed_stmt-returns-in-For t c =
     let first = c.deref-in-For.result.now in let step = c.deref-in-For-2.result.now in let body = c.deref-in-For-3.result.now in
     stmt_along c.typed_for.result (standing_of c.typed_for.new.st) (placed_in (trees_of c.args.functions.now.functions.now) c.args.place) (standing_of c.args.st.now)
-        (stmt_tree c.args.stmt.now) (ForTree (stmt_trees first) (option_map tree_of c.in-For.test) (stmt_trees step) (stmt_tree body))
-        (for_is c.args.stmt.now c.in-For.first c.in-For.test c.in-For.step c.in-For.body first step body c.in-For.is c.deref-in-For.ensures.value c.deref-in-For-2.ensures.value c.deref-in-For-3.ensures)
-        c.typed_for.ensures
+    (stmt_tree c.args.stmt.now) (ForTree (stmt_trees first) (option_map tree_of c.in-For.test) (stmt_trees step) (stmt_tree body))
+    (for_is c.args.stmt.now c.in-For.first c.in-For.test c.in-For.step c.in-For.body first step body c.in-For.is c.deref-in-For.ensures.value c.deref-in-For-2.ensures.value c.deref-in-For-3.ensures)
+    c.typed_for.ensures
 
 pub typed_stmt-returns-in-Block : goal.typed_stmt-returns-in-Block
 typed_stmt-returns-in-Block t c =
     let items = c.deref-in-Block.result.now in
     stmt_along c.typed_block.result (standing_of c.typed_block.new.st) (placed_in (trees_of c.args.functions.now.functions.now) c.args.place) (standing_of c.args.st.now)
-        (stmt_tree c.args.stmt.now) (BlockTree (stmt_trees items)) (block_is c.args.stmt.now c.in-Block.items items c.in-Block.is c.deref-in-Block.ensures.value) c.typed_block.ensures
+    (stmt_tree c.args.stmt.now) (BlockTree (stmt_trees items)) (block_is c.args.stmt.now c.in-Block.items items c.in-Block.is c.deref-in-Block.ensures.value) c.typed_block.ensures
