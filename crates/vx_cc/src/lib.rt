@@ -10,3 +10,6 @@ pub mod sources;
 
 pub use faults::{SourceFault, SourceKind};
 pub use sources::front;
+
+#[cfg(test)]
+mod tests;
