@@ -1,5 +1,5 @@
 -- Two kernels worked out.
-use Rattle.std.proofs.Common.{◌≡◌, ℕ, zero, suc, ◌<◌, ◌%◌, [], ◌∷◌, get_or, refl, arith, nat_eq, if◌then◌else◌, lit<, lit≤, codes}
+use Rattle.std.proofs.Common.{◌≡◌, ℕ, zero, suc, ◌<◌, ◌%◌, [], ◌∷◌, get_or, refl, arith, nat_eq, if◌then◌else◌, lit<, lit≤}
 use Rattle.item_acts.specs.Tame.{LaunchLeaves}
 use Rattle.first_kernels.specs.declared.tree.Operator.TheVariants.{Add, Multiply}
 use Rattle.first_kernels.specs.FirstTree.{Literal, OwnId, OwnElement, Applied, Form}
@@ -10,8 +10,7 @@ use Rattle.first_kernels.proofs.FirstLaunchLeaves.{leaves}
 -- `a[get_global_id(0)] = get_global_id(0) * 3 + 1;`
 abbrev triples : Form
 triples = record {
-  name = codes "triples";
-  parameters = codes "a" ∷ [];
+  parameters = 1;
   assignments = record { parameter = 0; value = Applied Add (Applied Multiply OwnId (Literal 3)) (Literal 1) } ∷ [];
 }
 
@@ -47,8 +46,7 @@ triples_leave = leaves triples (0 ∷ []) 4 1 zeros triples_run (λ buffer byte.
 -- `b[get_global_id(0)] = a[get_global_id(0)] + 1; a[get_global_id(0)] = b[get_global_id(0)] * 2;`
 abbrev twice : Form
 twice = record {
-  name = codes "twice";
-  parameters = codes "a" ∷ codes "b" ∷ [];
+  parameters = 2;
   assignments = record { parameter = 1; value = Applied Add (OwnElement 0) (Literal 1) }
       ∷ record { parameter = 0; value = Applied Multiply (OwnElement 1) (Literal 2) } ∷ [];
 }

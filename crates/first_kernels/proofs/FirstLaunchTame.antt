@@ -115,7 +115,7 @@ module _ (k : Form) (arguments : List ℕ) (items buffers : ℕ) (given : ℕ �
       steps = 0;
       leads = leads_none (item_step arrays item) (item_start k);
       few = omega arith;
-      makes = makes_body arrays item buffers (length k.parameters)
+      makes = makes_body arrays item buffers k.parameters
           (λ p known. launchable.within p 0 (let enough = launchable.enough in omega arith))
           (let few = launchable.items_few in omega arith) k.assignments launchable.assignments (words_at given item)
           (λ b. own_words-word (start given).bytes item b small);

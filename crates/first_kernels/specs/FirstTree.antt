@@ -17,10 +17,9 @@ pub record Assigns : Type 0 where
   pub parameter : ℕ
   pub value : Tree
 
--- a kernel, without where it lies in memory
+-- a kernel, without where it lies in memory: how many parameters it has, and its assignments
 pub record Form : Type 0 where
-  pub name : List ℕ
-  pub parameters : List (List ℕ)
+  pub parameters : ℕ
   pub assignments : List Assigns
 
 abbrev pub tree_of : Sum → Tree
@@ -34,7 +33,7 @@ abbrev pub assigns_of : Assignment → Assigns
 assigns_of a = record { parameter = a.parameter; value = tree_of a.value }
 
 abbrev pub form_of : Kernel → Form
-form_of k = record { name = k.name; parameters = k.parameters; assignments = map assigns_of k.assignments }
+form_of k = record { parameters = k.parameters; assignments = map assigns_of k.assignments }
 
 -- The height of a sum: a number has 1, the item's id 2 for its call and argument, an element 3 for its index besides,
 -- and each other node, parentheses included, one more than the higher of its parts.

@@ -43,8 +43,8 @@ IsAssignmentOf parameters a = (a.parameter < parameters) × IsSumOf parameters a
 
 -- each argument names a buffer, and there is one for each parameter
 pub record IsLaunchable (k : Form) (arguments : List ℕ) (items buffers : ℕ) : Type 0 where
-  pub enough : length k.parameters ≡ length arguments
+  pub enough : k.parameters ≡ length arguments
   pub within : All (λ b. b < buffers) arguments
-  pub assignments : AllByRecursion (IsAssignmentOf (length k.parameters)) k.assignments
+  pub assignments : AllByRecursion (IsAssignmentOf k.parameters) k.assignments
   pub items_some : 0 < items
   pub items_few : items ≤ 32

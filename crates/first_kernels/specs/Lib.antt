@@ -1,9 +1,8 @@
 pub mod FirstTree
-pub mod FirstText
-pub mod FirstTokens
-pub mod FirstReading
 pub mod First
 pub mod FirstValues
+pub mod FirstForms
+pub mod FirstSources
 pub mod FirstMemory
 pub mod FirstLane
 pub mod FirstWarp

@@ -1,4 +1,4 @@
-use vx_base::{ListOf, Text};
+use vx_base::ListOf;
 
 /// An operator of a sum, on 32-bit words.
 #[derive(Clone, Copy, Debug, PartialEq, Eq)]
@@ -42,13 +42,11 @@ pub struct Assignment {
     pub value: Sum,
 }
 
-/// A kernel: its name, the names of its parameters and its assignments, each in order.
+/// A kernel: how many parameters it has, and its assignments in order.
 #[derive(Debug, Drop)]
 pub struct Kernel {
-    /// The kernel's name.
-    pub name: Text,
-    /// The names of the parameters. Each is a `__global int *`.
-    pub parameters: ListOf<Text>,
+    /// How many parameters it has, from 1 to 16. Each is a `__global int *`.
+    pub parameters: u32,
     /// The assignments.
     pub assignments: ListOf<Assignment>,
 }

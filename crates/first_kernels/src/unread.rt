@@ -3,12 +3,12 @@ ghost use Rattle.first_kernels.specs.declared.unread.Unread.TheVariants.{Memory}
 
 use std::alloc::{AllocError, AllocFailed};
 
-/// Why no kernel was read from a text.
+/// Why no kernel of assignments was found.
 #[derive(Clone, Copy, Debug, PartialEq, Eq)]
 pub enum Unread {
     /// Memory ran out.
     Memory,
-    /// The text is not of the form of a kernel of assignments.
+    /// What was looked at is of another form.
     OtherForm,
 }
 

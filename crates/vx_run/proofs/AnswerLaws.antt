@@ -1,25 +1,35 @@
 -- From stage to stage of a call.
-use Rattle.std.proofs.Common.{◌≡◌, ◌≢◌, ℕ, zero, suc, ◌+◌, ◌-◌, ◌^◌, ◌≤◌, ◌<◌, min, List, [], ◌∷◌, length, take, get_or, map, Some, refl, ap, sym, ◌∙◌, subst, arith, All, Ok, Err, length-take}
-use Rattle.std.specs.Prelude.{Option, None, Result, IfErr}
+use Rattle.std.proofs.Common.{◌≡◌, ◌≢◌, ◌⊎◌, ℕ, zero, suc, ◌+◌, ◌-◌, ◌^◌, ◌≤◌, ◌<◌, min, List, [], ◌∷◌, length, take, get_or, map, Some, refl, ap, sym, ◌∙◌, subst, arith, All, Ok, Err, length-take, inl, inr}
+use Rattle.std.specs.Prelude.{Option, None, Result, IfErr, slice_get}
 use Rattle.std.proofs.lemmas.List.{take_all}
 use Rattle.std.specs.List.{AllByRecursion}
 use Rattle.std.proofs.lemmas.List.Elements.{All-from_recursion}
 use Rattle.vx_world.specs.declared.reading.Entry.{Entry}
 use Rattle.vx_run.specs.declared.report.Cause.{Cause}
 use Rattle.vx_run.specs.declared.report.Cause.TheVariants.{Usage, Source, Launch, ReadFault, Missing}
-use Rattle.vx_run.specs.declared.report.LaunchKind.TheVariants.{NoEntry, Arguments}
+use Rattle.vx_run.specs.declared.report.LaunchKind.TheVariants.{NoEntry, NotBuilt, Arguments}
 use Rattle.item_acts.specs.Tame.{LaunchLeaves}
 use Rattle.first_kernels.specs.First.{launch_of}
 use Rattle.vx_run.specs.Output.{output_text}
-use Rattle.vx_run.specs.declared.report.SourceKind.TheVariants.{Subset}
 use Rattle.vx_run.specs.declared.stages.Stop.{Stop}
 use Rattle.vx_run.specs.declared.stages.Stop.TheVariants as stop
 use Rattle.vx_words.specs.declared.run_words.BufWord.{BufWord}
 use Rattle.vx_words.specs.declared.run_words.RunWords.{RunWords}
 use Rattle.vx_words.specs.declared.usage.UsageFault.{UsageFault}
 use Rattle.vx_words.specs.declared.usage.UsageFault.TheVariants as usage
-use Rattle.first_kernels.specs.FirstText.{IsKernelFile}
-use Rattle.first_kernels.specs.FirstTree as tree
+use Rattle.first_kernels.specs.FirstForms.{form_from, IsFit}
+use Rattle.first_kernels.specs.FirstTree.{Form}
+use Rattle.first_kernels.specs.FirstValues.{IsLaunchable}
+use Rattle.first_kernels.proofs.FirstSourceLaws.{has_form, source_leaves}
+use Rattle.ocl_program.specs.Nodes.{FunctionNode}
+use Rattle.ocl_program.specs.Shapes.{function_node}
+use Rattle.ocl_program.specs.declared.functions.TypedFunction.{TypedFunction}
+use Rattle.ocl_types.specs.Functions.{kernel_from}
+use Rattle.vx_base.specs.declared.types.Pos.{Pos}
+use Rattle.vx_cc.specs.Faults.{first_place, fault_at, no_memory}
+use Rattle.vx_cc.specs.Fronts.{FrontOf}
+use Rattle.vx_cc.specs.declared.faults.SourceFault.{SourceFault}
+use Rattle.vx_cc.specs.declared.faults.SourceKind.{SourceKind}
 use Rattle.vx_words.specs.Words.{IsRun, IsOrigin, AreNumbersOf}
 use Rattle.vx_words.specs.declared.command.Command.{Command}
 use Rattle.vx_words.specs.declared.command.Command.TheVariants.{Run, Asm, Dis}
@@ -27,8 +37,8 @@ use Rattle.vx_words.specs.declared.usage.UsageKind.{UsageKind}
 use Rattle.vx_words.specs.Commands as commands
 use Rattle.vx_words.specs.Commands.{IsCommand, IsUsage}
 use Rattle.vx_run.specs.Answers as answers
-use Rattle.vx_run.specs.Answers.{Outcome, Refuses, Prints, bytes_in, first_place, FromArguments, WrongArguments, Runs, FromBuffers, HasEntry, FromEntry, FromSource, NoKernel, HasKernel, FromFile, NoFile, HasFile, FromWords, WrongWords, RightWords}
-use Rattle.vx_run.specs.Stages.{StopsAt, ComesTo, StopFaults, StageFaults, StageMisses, ReadsFront, StopsReading, IsRunnable, IsRunnableCommand, IsNoKernel, IsPlain, StopsFor}
+use Rattle.vx_run.specs.Answers.{Outcome, Refuses, Prints, Chosen, bytes_in, most_source, FromArguments, WrongArguments, Runs, FromBuffers, FromKernel, HasForm, FromProgram, HasEntry, FromSource, LongSource, BadSource, HasProgram, FromFile, NoFile, HasFile, FromWords, WrongWords, RightWords}
+use Rattle.vx_run.specs.Stages.{StopsAt, ComesTo, StopFaults, StageFaults, StageMisses, ReadsFront, StopsReading, IsRunnable, IsRunnableCommand, IsSourceFault, IsNoProgram, IsPlain, StopsFor, StopsForSource}
 use Rattle.vx_run.proofs.LoadingLaws.{StopsAt-map}
 
 -- what comes of one stage comes of the one before it
@@ -66,22 +76,40 @@ front_is_whole held name bytes front short =
     let cut : length bytes ≡ min 1048577 (length front.whole) = ap length (sym front.front) ∙ length-take 1048577 front.whole in
     omega (arith, cut, short)
 
--- a file that is no kernel's is refused
-pub no_kernel_stops : (held : Option (List Entry)) (c : RunWords) (bytes : List ℕ) → ReadsFront held c.file 1048577 bytes → (s : Stop) → IsNoKernel bytes s → StopsAt (FromFile held c) s
-no_kernel_stops held c bytes front (stop.Refused (Source pos kind)) h =
-    let none : (k : tree.Form) → IsKernelFile front.whole k → ⊥ = λ k is. h.2 k (subst (λ x. IsKernelFile x k) (whole_is_front held c.file bytes front is.few) is) in
-    let refused : FromFile held c (Refuses (Source first_place Subset)) = HasFile front.whole (Refuses (Source first_place Subset)) front.holds (NoKernel none) in
-    subst (λ p. FromFile held c (Refuses (Source p kind))) (sym h.0) (subst (λ x. FromFile held c (Refuses (Source first_place x))) (sym h.1) refused)
-no_kernel_stops held c bytes front (stop.Refused (ReadFault faults)) h = absurd h
-no_kernel_stops held c bytes front (stop.Refused other) h = absurd h
-no_kernel_stops held c bytes front stop.Memory h = tt
+-- more bytes were read than a source may have, so there are more
+more_is_more : (held : Option (List Entry)) (name bytes : List ℕ) (front : ReadsFront held name 1048577 bytes) → 1048576 < length bytes → 1048576 < length front.whole
+more_is_more held name bytes front long =
+    let cut : length bytes ≡ min 1048577 (length front.whole) = ap length (sym front.front) ∙ length-take 1048577 front.whole in
+    omega (arith, cut, long)
 
--- what comes of the kernel's entry comes of its file
-pub kernel_comes : (held : Option (List Entry)) (c : RunWords) (bytes : List ℕ) → ReadsFront held c.file 1048577 bytes → (k : tree.Form) → IsKernelFile bytes k →
-    (o : Outcome) → FromEntry held c k o → FromFile held c o
-kernel_comes held c bytes front k is o h =
-    let same : front.whole ≡ bytes = whole_is_front held c.file bytes front (front_is_whole held c.file bytes front is.few) in
-    HasFile front.whole o front.holds (subst (λ x. FromSource held c x o) (sym same) (HasKernel k o is h))
+-- a source that has a fault is refused for it
+source_refused : (held : Option (List Entry)) (c : RunWords) (bytes : List ℕ) (pos : Pos) (kind : SourceKind) → IsSourceFault bytes pos kind → FromSource held c bytes (Refuses (Source pos kind))
+source_refused held c bytes pos kind (inl long) =
+    subst (λ p. FromSource held c bytes (Refuses (Source p kind))) (sym long.1) (subst (λ x. FromSource held c bytes (Refuses (Source first_place x))) (sym long.2) (LongSource long.0))
+source_refused held c bytes pos kind (inr bad) = BadSource (fault_at pos kind) bad.0 bad.1
+
+-- the whole has the fault of what was read
+fault_of_whole : (held : Option (List Entry)) (name bytes : List ℕ) (front : ReadsFront held name 1048577 bytes) (pos : Pos) (kind : SourceKind) → IsSourceFault bytes pos kind → IsSourceFault front.whole pos kind
+fault_of_whole held name bytes front pos kind (inl long) = inl (more_is_more held name bytes front long.0, long.1, long.2)
+fault_of_whole held name bytes front pos kind (inr bad) =
+    let short : length front.whole ≤ 1048576 = front_is_whole held name bytes front bad.0 in
+    subst (λ x. IsSourceFault x pos kind) (sym (whole_is_front held name bytes front short)) (inr bad)
+
+-- a file that has no program is refused
+pub no_program_stops : (held : Option (List Entry)) (c : RunWords) (bytes : List ℕ) → ReadsFront held c.file 1048577 bytes → (s : Stop) → IsNoProgram bytes s → StopsAt (FromFile held c) s
+no_program_stops held c bytes front (stop.Refused (Source pos kind)) h =
+    HasFile front.whole (Refuses (Source pos kind)) front.holds (source_refused held c front.whole pos kind (fault_of_whole held c.file bytes front pos kind h))
+no_program_stops held c bytes front (stop.Refused (ReadFault faults)) h = absurd h
+no_program_stops held c bytes front (stop.Refused other) h = absurd h
+no_program_stops held c bytes front stop.Memory h = tt
+
+-- what comes of the program comes of its file
+pub program_comes : (held : Option (List Entry)) (c : RunWords) (bytes : List ℕ) → ReadsFront held c.file 1048577 bytes → length bytes ≤ 1048576 → (program : List FunctionNode) → FrontOf bytes (Ok program) →
+    (o : Outcome) → FromProgram held c program o → FromFile held c o
+program_comes held c bytes front few program is o h =
+    let short : length front.whole ≤ 1048576 = front_is_whole held c.file bytes front few in
+    let same : front.whole ≡ bytes = whole_is_front held c.file bytes front short in
+    HasFile front.whole o front.holds (subst (λ x. FromSource held c x o) (sym same) (HasProgram program o few is h))
 
 -- what is known of numbers of buffers
 numbers_below : (buffers : List BufWord) (ns : List ℕ) (names : List (List ℕ)) → AreNumbersOf buffers ns names → AllByRecursion (λ b. b < length buffers) ns
@@ -114,23 +142,60 @@ usage_stops held words (usage.Usage word kind) s refused is = subst (StopsAt (Fr
 usage_stops held words usage.Memory s refused is = subst (StopsAt (FromWords held words)) (sym is) tt
 
 -- another number of arguments is refused
-pub arguments_refused : (c : RunWords) (k : tree.Form) (contents : List (List ℕ)) (given wanted : ℕ) → given ≡ length c.arguments → wanted ≡ length k.parameters → given ≢ wanted →
+pub arguments_refused : (c : RunWords) (k : Chosen) (contents : List (List ℕ)) (given wanted : ℕ) → given ≡ length c.arguments → wanted ≡ length k.kernel.params → given ≢ wanted →
     FromArguments c k contents (Refuses (Launch 0 (Arguments (min given (2 ^ 32 - 1)) wanted)))
 arguments_refused c k contents given wanted e f other =
     subst (λ n. FromArguments c k contents (Refuses (Launch 0 (Arguments (min n (2 ^ 32 - 1)) wanted)))) (sym e)
     (subst (λ n. FromArguments c k contents (Refuses (Launch 0 (Arguments (min (length c.arguments) (2 ^ 32 - 1)) n)))) (sym f)
     (WrongArguments (λ same. other (e ∙ same ∙ sym f))))
 
--- what a launch leaves is printed
-pub launch_prints : (c : RunWords) (k : tree.Form) (contents : List (List ℕ)) (text : List ℕ) → length c.arguments ≡ length k.parameters →
-    ((left : ℕ → ℕ → ℕ) × LaunchLeaves (launch_of k c.arguments c.items (length c.buffers)) (bytes_in contents) left × (text ≡ output_text c left)) →
+-- what a launch of the form leaves, the launch of the kernel leaves, and it is printed
+pub launch_prints : (c : RunWords) (k : Chosen) (form : Form) (contents : List (List ℕ)) (text : List ℕ) → form_from k.kernel ≡ Some form → IsLaunchable form c.arguments c.items (length c.buffers) →
+    ((left : ℕ → ℕ → ℕ) × LaunchLeaves (launch_of form c.arguments c.items (length c.buffers)) (bytes_in contents) left × (text ≡ output_text c left)) →
     FromArguments c k contents (Prints text)
-launch_prints c k contents text same h = subst (λ t. FromArguments c k contents (Prints t)) (sym h.2) (Runs same h.0 h.1)
+launch_prints c k form contents text formed launchable h =
+    let parameters : form.parameters ≡ length k.kernel.params = (has_form k.kernel form formed).parameters in
+    let same : length c.arguments ≡ length k.kernel.params = sym launchable.enough ∙ parameters in
+    subst (λ t. FromArguments c k contents (Prints t)) (sym h.2)
+    (Runs same h.0 (source_leaves k.program k.kernel form c.arguments c.items (length c.buffers) (bytes_in contents) h.0 formed launchable h.1))
 
--- a kernel with another name is refused
-pub entry_refused : (held : Option (List Entry)) (c : RunWords) (k : tree.Form) → (k.name ≡ c.entry → ⊥) → FromEntry held c k (Refuses (Launch 0 NoEntry))
-entry_refused held c k other = answers.NoEntry other
+-- a kernel of a form may be launched over the buffers of the words
+pub launchable_form : (c : RunWords) (form : Form) → IsRunnable c → IsFit form → length c.arguments ≡ form.parameters → IsLaunchable form c.arguments c.items (length c.buffers)
+launchable_form c form words fit same = record {
+  enough = sym same;
+  within = words.arguments;
+  assignments = fit.assignments;
+  items_some = words.items_some;
+  items_few = words.items_few;
+}
 
--- what comes of the buffers comes of the entry
-pub entry_comes : (held : Option (List Entry)) (c : RunWords) (k : tree.Form) → k.name ≡ c.entry → (o : Outcome) → FromBuffers held c k 0 c.buffers [] o → FromEntry held c k o
-entry_comes held c k same o h = HasEntry o same h
+-- the function with a number, by its node
+node_at : (fs : List TypedFunction) (n : ℕ) (f : TypedFunction) → n < length fs → f ≡ get_or fs n f → slice_get (map function_node fs) n ≡ Some (function_node f)
+node_at [] n f below is = absurd (omega arith)
+node_at (g ∷ fs) zero f below is = ap (λ (x : TypedFunction). Some (function_node x)) (sym is)
+node_at (g ∷ fs) (suc n) f below is = node_at fs n f (omega (arith, below)) is
+
+-- what comes of a kernel that was found by its name comes of the program
+pub kernel_comes : (held : Option (List Entry)) (c : RunWords) (fs : List TypedFunction) (n : ℕ) (f : TypedFunction) → kernel_from 0 c.entry (map function_node fs) ≡ Some n → n < length fs →
+    f ≡ get_or fs n f → (o : Outcome) → FromKernel held c (record { program = map function_node fs; kernel = function_node f }) o → FromProgram held c (map function_node fs) o
+kernel_comes held c fs n f found below is o h = HasEntry (function_node f) o (record { number = n; found = found; is = node_at fs n f below is }) h
+
+-- a kernel without a form is refused
+pub form_refused : (held : Option (List Entry)) (c : RunWords) (k : Chosen) → form_from k.kernel ≡ None → FromKernel held c k (Refuses (Launch 0 NotBuilt))
+form_refused held c k none = answers.NotBuilt none
+
+-- what comes of the buffers comes of the kernel
+pub form_comes : (held : Option (List Entry)) (c : RunWords) (k : Chosen) (form : Form) → form_from k.kernel ≡ Some form → (o : Outcome) → FromBuffers held c k 0 c.buffers [] o → FromKernel held c k o
+form_comes held c k form is o h = HasForm form o is h
+
+-- a name that no kernel has is refused
+pub entry_refused : (held : Option (List Entry)) (c : RunWords) (program : List FunctionNode) → kernel_from 0 c.entry program ≡ None → FromProgram held c program (Refuses (Launch 0 NoEntry))
+entry_refused held c program none = answers.NoEntry none
+
+-- a source that has a fault stops the call for it, or for want of memory
+pub fault_stops : (bytes : List ℕ) (fault : SourceFault) (s : Stop) → length bytes ≤ most_source → (fault ≡ no_memory) ⊎ FrontOf bytes (Err fault) → StopsForSource fault s → IsNoProgram bytes s
+fault_stops bytes fault (stop.Refused (Source pos kind)) few (inl none) h = absurd (h.1 (ap (λ (f : SourceFault). f.kind) (sym h.0 ∙ none)))
+fault_stops bytes fault (stop.Refused (Source pos kind)) few (inr is) h = inr (few, subst (λ (f : SourceFault). FrontOf bytes (Err f)) h.0 is)
+fault_stops bytes fault (stop.Refused (ReadFault faults)) few is h = absurd h
+fault_stops bytes fault (stop.Refused other) few is h = absurd h
+fault_stops bytes fault stop.Memory few is h = tt

@@ -14,11 +14,10 @@ use Rattle.vx_words.specs.declared.run_words.BufFrom.{BufFrom}
 use Rattle.vx_words.specs.declared.run_words.BufFrom.TheVariants.{File, Zero}
 use Rattle.vx_words.specs.declared.run_words.BufWord.{BufWord}
 use Rattle.vx_words.specs.declared.run_words.RunWords.{RunWords}
-use Rattle.first_kernels.specs.FirstTree.{Form}
-use Rattle.vx_run.specs.Answers.{Outcome, Refuses, Holds, Brings, counted_bytes, FromBuffers, NoBufferFile, WrongLength, NextBuffer, NoBuffers}
+use Rattle.vx_run.specs.Answers.{Chosen, Outcome, Refuses, Holds, Brings, counted_bytes, FromBuffers, NoBufferFile, WrongLength, NextBuffer, NoBuffers}
 use Rattle.vx_run.specs.Stages.{IsRefusal, StopsAt, ReadsFront, StopsReading}
 
-module _ (held : Option (List Entry)) (c : RunWords) (k : Form) (index : ℕ) (more : List BufWord) (contents : List (List ℕ)) where
+module _ (held : Option (List Entry)) (c : RunWords) (k : Chosen) (index : ℕ) (more : List BufWord) (contents : List (List ℕ)) where
   -- the outcomes of a buffer with this name and origin, and those behind it
   abbrev pub from_buffer : List ℕ → BufFrom → Outcome → Type 0
   from_buffer name from o = FromBuffers held c k index (record { name = name; from = from } ∷ more) contents o
@@ -65,7 +64,7 @@ StopsAt-map P Q f stop.Memory h = tt
 pub record HasLoaded (held : Option (List Entry)) (c : RunWords) (index : ℕ) (contents : List (List ℕ)) : Type 0 where
   pub count : length contents ≡ index
   pub lengths : All (λ bytes. length bytes ≡ 4 * c.items) contents
-  pub leads : (k : Form) (o : Outcome) → FromBuffers held c k index (drop index c.buffers) contents o → FromBuffers held c k 0 c.buffers [] o
+  pub leads : (k : Chosen) (o : Outcome) → FromBuffers held c k index (drop index c.buffers) contents o → FromBuffers held c k 0 c.buffers [] o
 
 -- the next buffer is the first of those that are left
 next_buffer : (c : RunWords) (index : ℕ) (b : BufWord) → index < length c.buffers → b ≡ get_or c.buffers index b →
@@ -88,8 +87,8 @@ HasLoaded-next held c index contents b bytes within is brings n h =
 -- what stops the next buffer stops the call
 pub HasLoaded-stops : (held : Option (List Entry)) (c : RunWords) (index : ℕ) (contents : List (List ℕ)) (b : BufWord) (s : Stop) →
     index < length c.buffers → b ≡ get_or c.buffers index b → HasLoaded held c index contents →
-    ((k : Form) (more : List BufWord) (sofar : List (List ℕ)) → StopsAt (FromBuffers held c k index (b ∷ more) sofar) s) →
-    (k : Form) → StopsAt (FromBuffers held c k 0 c.buffers []) s
+    ((k : Chosen) (more : List BufWord) (sofar : List (List ℕ)) → StopsAt (FromBuffers held c k index (b ∷ more) sofar) s) →
+    (k : Chosen) → StopsAt (FromBuffers held c k 0 c.buffers []) s
 HasLoaded-stops held c index contents b s within is h stops k =
     let front : drop index c.buffers ≡ b ∷ drop (index + 1) c.buffers = next_buffer c index b within is in
     StopsAt-map _ _ (h.leads k) s (subst (λ bs. StopsAt (FromBuffers held c k index bs contents) s) (sym front) (stops k (drop (index + 1) c.buffers) contents))

@@ -8,11 +8,11 @@ use Rattle.vx_world.specs.declared.reading.Entry.{Entry}
 use Rattle.vx_words.specs.declared.run_words.BufWord.{BufWord}
 use Rattle.vx_words.specs.declared.run_words.RunWords.{RunWords}
 use Rattle.vx_words.specs.declared.usage.UsageKind.{UsageKind}
-use Rattle.first_kernels.specs.FirstTree.{Form}
+use Rattle.ocl_program.specs.Nodes.{FunctionNode}
 use Rattle.vx_run.specs.declared.report.Cause.{Cause}
 use Rattle.vx_run.specs.declared.report.Cause.TheVariants.{Done, Usage, Source, Launch, Buffer, Trap, Stuck, Turns, ReadFault, WriteFault, Memory, Missing}
 use Rattle.vx_run.specs.declared.report.Report.{Report}
-use Rattle.vx_run.specs.Answers.{Outcome, Refuses, Prints, FromWords, FromFile, FromSource, FromEntry, FromBuffers, FromArguments, WrongWords, RightWords, most_assembly, most_word_text, NoFile, HasFile, NoKernel, HasKernel, NoEntry, HasEntry, NoBuffers, NoBufferFile, WrongLength, NextBuffer, WrongArguments, Runs}
+use Rattle.vx_run.specs.Answers.{Chosen, Outcome, Refuses, Prints, FromWords, FromFile, FromSource, FromProgram, FromKernel, FromBuffers, FromArguments, WrongWords, RightWords, most_assembly, most_word_text, NoFile, HasFile, LongSource, BadSource, HasProgram, NoEntry, HasEntry, NotBuilt, HasForm, NoBuffers, NoBufferFile, WrongLength, NextBuffer, WrongArguments, Runs}
 use Rattle.vx_run.specs.Delivery.{AppendsSome, IsReportOf, Delivers, WholeText, SinkFailed, NoMemory}
 use Rattle.vx_run.specs.Lines.{line_of, status_of}
 use Rattle.vx_run.specs.Meets as promises
@@ -37,23 +37,28 @@ module _ (held : Option (List Entry)) (words : List (List ℕ)) where
     AtMemory : report.cause ≡ Memory → Ended before now report
 
 module _ (held : Option (List Entry)) where
-  may_arguments : (c : RunWords) (k : Form) (contents : List (List ℕ)) (o : Outcome) → FromArguments c k contents o → MayBe o
+  may_arguments : (c : RunWords) (k : Chosen) (contents : List (List ℕ)) (o : Outcome) → FromArguments c k contents o → MayBe o
   may_arguments c k contents o (WrongArguments other) = tt
   may_arguments c k contents o (Runs same left leaves) = tt
 
-  may_buffers : (c : RunWords) (k : Form) (index : ℕ) (bs : List BufWord) (contents : List (List ℕ)) (o : Outcome) → FromBuffers held c k index bs contents o → MayBe o
+  may_buffers : (c : RunWords) (k : Chosen) (index : ℕ) (bs : List BufWord) (contents : List (List ℕ)) (o : Outcome) → FromBuffers held c k index bs contents o → MayBe o
   may_buffers c k index [] contents o (NoBuffers i cs q h) = may_arguments c k contents o h
   may_buffers c k index (b ∷ more) contents o (NoBufferFile i cs b' more' path e none) = tt
   may_buffers c k index (b ∷ more) contents o (WrongLength i cs b' more' bytes brings other) = tt
   may_buffers c k index (b ∷ more) contents o (NextBuffer i cs b' more' bytes q brings whole rest) = may_buffers c k (suc index) more (contents ++ bytes ∷ []) o rest
 
-  may_entry : (c : RunWords) (k : Form) (o : Outcome) → FromEntry held c k o → MayBe o
-  may_entry c k o (NoEntry other) = tt
-  may_entry c k o (HasEntry q same h) = may_buffers c k 0 c.buffers [] o h
+  may_kernel : (c : RunWords) (k : Chosen) (o : Outcome) → FromKernel held c k o → MayBe o
+  may_kernel c k o (NotBuilt other) = tt
+  may_kernel c k o (HasForm form q is h) = may_buffers c k 0 c.buffers [] o h
+
+  may_program : (c : RunWords) (program : List FunctionNode) (o : Outcome) → FromProgram held c program o → MayBe o
+  may_program c program o (NoEntry none) = tt
+  may_program c program o (HasEntry f q is h) = may_kernel c (record { program = program; kernel = f }) o h
 
   may_source : (c : RunWords) (bytes : List ℕ) (o : Outcome) → FromSource held c bytes o → MayBe o
-  may_source c bytes o (NoKernel none) = tt
-  may_source c bytes o (HasKernel k q is h) = may_entry c k o h
+  may_source c bytes o (LongSource long) = tt
+  may_source c bytes o (BadSource fault few is) = tt
+  may_source c bytes o (HasProgram program q few is h) = may_program c program o h
 
   may_file : (c : RunWords) (o : Outcome) → FromFile held c o → MayBe o
   may_file c o (NoFile none) = tt

@@ -1,6 +1,6 @@
 -- A call whose files tell what they have comes to one refusal at most, or only to texts that it prints.
 use Rattle.std.proofs.Common.{◌≡◌, ◌≢◌, ℕ, suc, ◌*◌, ◌<◌, ◌≤◌, List, [], ◌∷◌, ◌++◌, length, Some, refl, ap, sym, ◌∙◌, subst, arith, codes, map}
-use Rattle.std.specs.Prelude.{Option, None}
+use Rattle.std.specs.Prelude.{Option, None, Result, Ok, Err, slice_get}
 use Rattle.vx_world.specs.declared.reading.Entry.{Entry}
 use Rattle.vx_world.specs.Reading.{bytes_named}
 use Rattle.vx_run.specs.declared.report.BufferKind.TheVariants as buffer
@@ -11,13 +11,15 @@ use Rattle.vx_words.specs.declared.run_words.BufFrom.TheVariants.{File, Zero}
 use Rattle.vx_words.specs.declared.run_words.BufWord.{BufWord}
 use Rattle.vx_words.specs.declared.run_words.RunWords.{RunWords}
 use Rattle.vx_words.specs.declared.usage.UsageKind.{UsageKind}
-use Rattle.first_kernels.specs.FirstText.{IsKernelFile}
-use Rattle.first_kernels.specs.FirstReading.{form_of_text}
-use Rattle.first_kernels.specs.FirstTree.{Form}
+use Rattle.first_kernels.specs.FirstForms.{form_from}
+use Rattle.ocl_program.specs.Nodes.{FunctionNode}
+use Rattle.ocl_types.specs.Functions.{kernel_from}
+use Rattle.vx_cc.specs.declared.faults.SourceFault.{SourceFault}
+use Rattle.vx_cc.specs.Fronts.{FrontOf}
+use Rattle.vx_cc.proofs.OneFront.{one_front}
 use Rattle.vx_words.specs.declared.command.Command.{Command}
 use Rattle.vx_words.specs.declared.command.Command.TheVariants.{Run, Asm, Dis}
-use Rattle.vx_run.specs.Answers.{Outcome, Refuses, Prints, Brings, counted_bytes, FromArguments, WrongArguments, Runs, FromBuffers, NoBuffers, NoBufferFile, WrongLength, NextBuffer, FromEntry, NoEntry, HasEntry, FromSource, NoKernel, HasKernel, FromFile, NoFile, HasFile, FromBytes, TooLong, BadText, GoodText, FromText, NoText, HasText, FromCommand, most_assembly, most_word_text, FromWords, WrongWords, RightWords}
-use Rattle.first_kernels.proofs.FirstTexts.{text_again}
+use Rattle.vx_run.specs.Answers.{Chosen, Outcome, Refuses, Prints, Brings, counted_bytes, FromArguments, WrongArguments, Runs, FromBuffers, NoBuffers, NoBufferFile, WrongLength, NextBuffer, IsKernelOf, FromKernel, NotBuilt, HasForm, FromProgram, NoEntry, HasEntry, FromSource, LongSource, BadSource, HasProgram, FromFile, NoFile, HasFile, FromBytes, TooLong, BadText, GoodText, FromText, NoText, HasText, FromCommand, most_assembly, most_word_text, FromWords, WrongWords, RightWords}
 use Rattle.vx_words.proofs.OneReading.{command_same, command_usage, usage_same}
 use Rattle.vx_run.proofs.Answerable.{of_text}
 
@@ -34,12 +36,24 @@ some_same o x y e f = cc
 some_none : {X : Type 0} (o : Option X) (x : X) → o ≡ Some x → o ≡ None → ⊥
 some_none o x e f = cc
 
--- a text is of one kernel
-one_kernel : (bytes : List ℕ) (k l : Form) → IsKernelFile bytes k → IsKernelFile bytes l → k ≡ l
-one_kernel bytes k l h h' = some_same (form_of_text bytes) k l (text_again bytes k h.text) (text_again bytes l h'.text)
+-- a name is of one kernel
+one_kernel : (program : List FunctionNode) (name : List ℕ) (f g : FunctionNode) → IsKernelOf program name f → IsKernelOf program name g → f ≡ g
+one_kernel program name f g h h' =
+    let number : h.number ≡ h'.number = some_same (kernel_from 0 name program) h.number h'.number h.found h'.found in
+    some_same (slice_get program h'.number) f g (subst (λ n. slice_get program n ≡ Some f) number h.is) h'.is
 
 same_usage : (word other : ℕ) (kind kind' : UsageKind) → (word ≡ other) × (kind ≡ kind') → cause.Usage word kind ≡ cause.Usage other kind'
 same_usage word other kind kind' h = ap (λ (w : ℕ). cause.Usage w kind) h.0 ∙ ap (λ (k : UsageKind). cause.Usage other k) h.1
+
+-- two results of one value
+errors_same : (fault fault' : SourceFault) → ◌≡◌ {A = Result (List FunctionNode) SourceFault} (Err fault) (Err fault') → fault ≡ fault'
+errors_same fault fault' e = cc
+
+oks_same : (program program' : List FunctionNode) → ◌≡◌ {A = Result (List FunctionNode) SourceFault} (Ok program) (Ok program') → program ≡ program'
+oks_same program program' e = cc
+
+error_ok : (fault : SourceFault) (program : List FunctionNode) → ◌≡◌ {A = Result (List FunctionNode) SourceFault} (Err fault) (Ok program) → ⊥
+error_ok fault program e = absurd cc
 
 module _ (entries : List Entry) where
   abbrev told : Option (List Entry)
@@ -59,13 +73,13 @@ module _ (entries : List Entry) where
   one_path : (from : BufFrom) (path other : List ℕ) → from ≡ File path → from ≡ File other → path ≡ other
   one_path from path other e f = cc
 
-  one_arguments : (c : RunWords) (k : Form) (contents : List (List ℕ)) (o p : Outcome) → FromArguments c k contents o → FromArguments c k contents p → Agree o p
+  one_arguments : (c : RunWords) (k : Chosen) (contents : List (List ℕ)) (o p : Outcome) → FromArguments c k contents o → FromArguments c k contents p → Agree o p
   one_arguments c k contents o p (WrongArguments other) (WrongArguments other') = refl
   one_arguments c k contents o p (WrongArguments other) (Runs same left leaves) = absurd (other same)
   one_arguments c k contents o p (Runs same left leaves) (WrongArguments other) = absurd (other same)
   one_arguments c k contents o p (Runs same left leaves) (Runs same' left' leaves') = tt
 
-  one_buffers : (c : RunWords) (k : Form) (index : ℕ) (bs : List BufWord) (contents : List (List ℕ)) (o p : Outcome) →
+  one_buffers : (c : RunWords) (k : Chosen) (index : ℕ) (bs : List BufWord) (contents : List (List ℕ)) (o p : Outcome) →
       FromBuffers told c k index bs contents o → FromBuffers told c k index bs contents p → Agree o p
   one_buffers c k index [] contents o p (NoBuffers i cs q h) (NoBuffers i' cs' q' h') = one_arguments c k contents o p h h'
   one_buffers c k index (b ∷ more) contents o p (NoBufferFile i cs b' more' path e none) (NoBufferFile i' cs' b'' more'' path' e' none') =
@@ -88,18 +102,32 @@ module _ (entries : List Entry) where
       one_buffers c k (suc index) more (contents ++ bytes ∷ []) o p rest
       (subst (λ x. FromBuffers told c k (suc index) more (contents ++ x ∷ []) p) (one_content b.from bytes' bytes brings' brings) rest')
 
-  one_entry : (c : RunWords) (k : Form) (o p : Outcome) → FromEntry told c k o → FromEntry told c k p → Agree o p
-  one_entry c k o p (NoEntry other) (NoEntry other') = refl
-  one_entry c k o p (NoEntry other) (HasEntry q same h) = absurd (other same)
-  one_entry c k o p (HasEntry q same h) (NoEntry other) = absurd (other same)
-  one_entry c k o p (HasEntry q same h) (HasEntry q' same' h') = one_buffers c k 0 c.buffers [] o p h h'
+  one_form : (c : RunWords) (k : Chosen) (o p : Outcome) → FromKernel told c k o → FromKernel told c k p → Agree o p
+  one_form c k o p (NotBuilt other) (NotBuilt other') = refl
+  one_form c k o p (NotBuilt other) (HasForm form q is h) = absurd (some_none (form_from k.kernel) form is other)
+  one_form c k o p (HasForm form q is h) (NotBuilt other) = absurd (some_none (form_from k.kernel) form is other)
+  one_form c k o p (HasForm form q is h) (HasForm form' q' is' h') = one_buffers c k 0 c.buffers [] o p h h'
+
+  one_program : (c : RunWords) (program : List FunctionNode) (o p : Outcome) → FromProgram told c program o → FromProgram told c program p → Agree o p
+  one_program c program o p (NoEntry none) (NoEntry none') = refl
+  one_program c program o p (NoEntry none) (HasEntry f q is h) = absurd (some_none (kernel_from 0 c.entry program) is.number is.found none)
+  one_program c program o p (HasEntry f q is h) (NoEntry none) = absurd (some_none (kernel_from 0 c.entry program) is.number is.found none)
+  one_program c program o p (HasEntry f q is h) (HasEntry f' q' is' h') =
+      one_form c (record { program = program; kernel = f }) o p h
+      (subst (λ g. FromKernel told c (record { program = program; kernel = g }) p) (one_kernel program c.entry f' f is' is) h')
 
   one_source : (c : RunWords) (bytes : List ℕ) (o p : Outcome) → FromSource told c bytes o → FromSource told c bytes p → Agree o p
-  one_source c bytes o p (NoKernel none) (NoKernel none') = refl
-  one_source c bytes o p (NoKernel none) (HasKernel k q is h) = absurd (none k is)
-  one_source c bytes o p (HasKernel k q is h) (NoKernel none) = absurd (none k is)
-  one_source c bytes o p (HasKernel k q is h) (HasKernel k' q' is' h') =
-      one_entry c k o p h (subst (λ f. FromEntry told c f p) (one_kernel bytes k' k is' is) h')
+  one_source c bytes o p (LongSource long) (LongSource long') = refl
+  one_source c bytes o p (LongSource long) (BadSource fault few is) = absurd (omega (arith, long, few))
+  one_source c bytes o p (LongSource long) (HasProgram program q few is h) = absurd (omega (arith, long, few))
+  one_source c bytes o p (BadSource fault few is) (LongSource long) = absurd (omega (arith, long, few))
+  one_source c bytes o p (BadSource fault few is) (BadSource fault' few' is') =
+      ap (λ (f : SourceFault). cause.Source f.pos f.kind) (errors_same fault fault' (one_front bytes (Err fault) (Err fault') is is'))
+  one_source c bytes o p (BadSource fault few is) (HasProgram program q few' is' h) = absurd (error_ok fault program (one_front bytes (Err fault) (Ok program) is is'))
+  one_source c bytes o p (HasProgram program q few is h) (LongSource long) = absurd (omega (arith, long, few))
+  one_source c bytes o p (HasProgram program q few is h) (BadSource fault few' is') = absurd (error_ok fault program (one_front bytes (Err fault) (Ok program) is' is))
+  one_source c bytes o p (HasProgram program q few is h) (HasProgram program' q' few' is' h') =
+      one_program c program o p h (subst (λ x. FromProgram told c x p) (oks_same program' program (one_front bytes (Ok program') (Ok program) is' is)) h')
 
   one_file : (c : RunWords) (o p : Outcome) → FromFile told c o → FromFile told c p → Agree o p
   one_file c o p (NoFile none) (NoFile none') = refl
@@ -147,15 +175,18 @@ module _ (entries : List Entry) where
 
 -- no stage behind the words refuses them
 module _ (held : Option (List Entry)) (word : ℕ) (kind : UsageKind) where
-  no_usage_buffers : (c : RunWords) (k : Form) (index : ℕ) (bs : List BufWord) (contents : List (List ℕ)) → FromBuffers held c k index bs contents (Refuses (cause.Usage word kind)) → ⊥
+  no_usage_buffers : (c : RunWords) (k : Chosen) (index : ℕ) (bs : List BufWord) (contents : List (List ℕ)) → FromBuffers held c k index bs contents (Refuses (cause.Usage word kind)) → ⊥
   no_usage_buffers c k index [] contents (NoBuffers i cs q h) = elim h [ ]
   no_usage_buffers c k index (b ∷ more) contents (NextBuffer i cs b' more' bytes q brings whole rest) = no_usage_buffers c k (suc index) more (contents ++ bytes ∷ []) rest
 
-  no_usage_entry : (c : RunWords) (k : Form) → FromEntry held c k (Refuses (cause.Usage word kind)) → ⊥
-  no_usage_entry c k (HasEntry q same h) = no_usage_buffers c k 0 c.buffers [] h
+  no_usage_kernel : (c : RunWords) (k : Chosen) → FromKernel held c k (Refuses (cause.Usage word kind)) → ⊥
+  no_usage_kernel c k (HasForm form q is h) = no_usage_buffers c k 0 c.buffers [] h
+
+  no_usage_program : (c : RunWords) (program : List FunctionNode) → FromProgram held c program (Refuses (cause.Usage word kind)) → ⊥
+  no_usage_program c program (HasEntry f q is h) = no_usage_kernel c (record { program = program; kernel = f }) h
 
   no_usage_source : (c : RunWords) (bytes : List ℕ) → FromSource held c bytes (Refuses (cause.Usage word kind)) → ⊥
-  no_usage_source c bytes (HasKernel k q is h) = no_usage_entry c k h
+  no_usage_source c bytes (HasProgram program q few is h) = no_usage_program c program h
 
   no_usage_file : (c : RunWords) → FromFile held c (Refuses (cause.Usage word kind)) → ⊥
   no_usage_file c (HasFile bytes q there h) = no_usage_source c bytes h

@@ -1,4 +1,4 @@
-use Rattle.std.specs.Prelude.{◌≡◌, ◌≢◌, ℕ, suc, ◌+◌, ◌-◌, ◌*◌, ◌^◌, ◌<◌, ◌≤◌, min, Result, Ok, Err, Option, Some, None, List, [], ◌∷◌, ◌++◌, length, replicate, slice_index, slice_index_or}
+use Rattle.std.specs.Prelude.{◌≡◌, ◌≢◌, ℕ, suc, ◌+◌, ◌-◌, ◌*◌, ◌^◌, ◌<◌, ◌≤◌, min, Result, Ok, Err, Option, Some, None, List, [], ◌∷◌, ◌++◌, length, replicate, slice_get, slice_index, slice_index_or}
 use Rattle.vx_base.specs.declared.types.Pos.{Pos}
 use Rattle.item_acts.specs.Tame.{LaunchLeaves}
 use Rattle.vx_world.specs.declared.reading.Entry.{Entry}
@@ -18,15 +18,20 @@ use Rattle.asm_text.specs.declared.statements.AsmFault.TheVariants as asm
 use Rattle.asm_text.specs.AsmTexts.{assembled}
 use Rattle.asm_text.specs.HexLines.{hex_lines, hex_words_of}
 use Rattle.vx_disasm.specs.Texts.{lines_text}
-use Rattle.vx_run.specs.declared.report.SourceKind.{SourceKind}
-use Rattle.vx_run.specs.declared.report.SourceKind.TheVariants as source
+use Rattle.vx_cc.specs.Faults.{first_place}
+use Rattle.vx_cc.specs.Fronts.{FrontOf}
+use Rattle.vx_cc.specs.declared.faults.SourceFault.{SourceFault}
+use Rattle.vx_cc.specs.declared.faults.SourceKind.{SourceKind}
+use Rattle.vx_cc.specs.declared.faults.SourceKind.TheVariants as source
+use Rattle.ocl_program.specs.Nodes.{FunctionNode}
+use Rattle.ocl_types.specs.Functions.{kernel_from}
 use Rattle.vx_run.specs.declared.report.LaunchKind.TheVariants as launch
 use Rattle.vx_run.specs.declared.report.BufferKind.TheVariants as buffer
 use Rattle.vx_run.specs.declared.report.Cause.{Cause}
 use Rattle.vx_run.specs.declared.report.Cause.TheVariants as cause
 use Rattle.first_kernels.specs.FirstTree.{Form}
-use Rattle.first_kernels.specs.First.{launch_of}
-use Rattle.first_kernels.specs.FirstText.{IsKernelFile}
+use Rattle.first_kernels.specs.FirstForms.{form_from}
+use Rattle.first_kernels.specs.FirstSources.{source_launch}
 use Rattle.vx_run.specs.Output.{output_text}
 
 -- What the words and the files of a call come to: it is refused for a cause, or it prints a text.
@@ -49,25 +54,26 @@ abbrev pub counted_bytes : BufFrom → List ℕ → ℕ → ℕ
 counted_bytes (File path) bytes wanted = min (length bytes) (wanted + 1)
 counted_bytes (Zero count) bytes wanted = length bytes
 
--- the first place of a text
-abbrev pub first_place : Pos
-first_place = record { line = 1; col = 1 }
-
 -- a byte of a buffer, by the bytes of each
 abbrev pub bytes_in : List (List ℕ) → ℕ → ℕ → ℕ
 bytes_in contents b byte = slice_index (slice_index_or contents b []) byte
 
+-- a kernel, and the program that it is of
+pub record Chosen : Type 0 where
+  pub program : List FunctionNode
+  pub kernel : FunctionNode
+
 -- The arguments and the run: as many arguments as parameters (their number is kept as 2^32 - 1 where it is greater), and then the launch leaves bytes that are printed.
-pub data FromArguments (c : RunWords) (k : Form) (contents : List (List ℕ)) : Outcome → Type 0 where
-  WrongArguments : length c.arguments ≢ length k.parameters →
-      FromArguments c k contents (Refuses (cause.Launch 0 (launch.Arguments (min (length c.arguments) (2 ^ 32 - 1)) (length k.parameters))))
-  Runs : length c.arguments ≡ length k.parameters → (left : ℕ → ℕ → ℕ) →
-      LaunchLeaves (launch_of k c.arguments c.items (length c.buffers)) (bytes_in contents) left →
+pub data FromArguments (c : RunWords) (k : Chosen) (contents : List (List ℕ)) : Outcome → Type 0 where
+  WrongArguments : length c.arguments ≢ length k.kernel.params →
+      FromArguments c k contents (Refuses (cause.Launch 0 (launch.Arguments (min (length c.arguments) (2 ^ 32 - 1)) (length k.kernel.params))))
+  Runs : length c.arguments ≡ length k.kernel.params → (left : ℕ → ℕ → ℕ) →
+      LaunchLeaves (source_launch k.program k.kernel c.arguments c.items (length c.buffers)) (bytes_in contents) left →
       FromArguments c k contents (Prints (output_text c left))
 
 -- The buffers in order, from this number on, behind those with these contents: each file is there, and each buffer has an
 -- int for each work-item.
-pub data FromBuffers (held : Option (List Entry)) (c : RunWords) (k : Form) : ℕ → List BufWord → List (List ℕ) → Outcome → Type 0 where
+pub data FromBuffers (held : Option (List Entry)) (c : RunWords) (k : Chosen) : ℕ → List BufWord → List (List ℕ) → Outcome → Type 0 where
   NoBuffers : (index : ℕ) (contents : List (List ℕ)) (o : Outcome) → FromArguments c k contents o → FromBuffers held c k index [] contents o
   NoBufferFile : (index : ℕ) (contents : List (List ℕ)) (b : BufWord) (more : List BufWord) (path : List ℕ) → b.from ≡ File path → Holds held path None →
       FromBuffers held c k index (b ∷ more) contents (Refuses (cause.Missing path))
@@ -77,15 +83,33 @@ pub data FromBuffers (held : Option (List Entry)) (c : RunWords) (k : Form) : �
   NextBuffer : (index : ℕ) (contents : List (List ℕ)) (b : BufWord) (more : List BufWord) (bytes : List ℕ) (o : Outcome) → Brings held b.from bytes →
       length bytes ≡ 4 * c.items → FromBuffers held c k (suc index) more (contents ++ bytes ∷ []) o → FromBuffers held c k index (b ∷ more) contents o
 
--- the entry: the kernel has its name
-pub data FromEntry (held : Option (List Entry)) (c : RunWords) (k : Form) : Outcome → Type 0 where
-  NoEntry : k.name ≢ c.entry → FromEntry held c k (Refuses (cause.Launch 0 launch.NoEntry))
-  HasEntry : (o : Outcome) → k.name ≡ c.entry → FromBuffers held c k 0 c.buffers [] o → FromEntry held c k o
+-- the kernel of a program that has this name
+pub record IsKernelOf (program : List FunctionNode) (name : List ℕ) (f : FunctionNode) : Type 0 where
+  pub number : ℕ
+  pub found : kernel_from 0 name program ≡ Some number
+  pub is : slice_get program number ≡ Some f
 
--- the source: these bytes are the text of a kernel
+-- the form of the kernel: it is one of those that run so far
+pub data FromKernel (held : Option (List Entry)) (c : RunWords) (k : Chosen) : Outcome → Type 0 where
+  NotBuilt : form_from k.kernel ≡ None → FromKernel held c k (Refuses (cause.Launch 0 launch.NotBuilt))
+  HasForm : (form : Form) (o : Outcome) → form_from k.kernel ≡ Some form → FromBuffers held c k 0 c.buffers [] o → FromKernel held c k o
+
+-- the entry: a kernel of the program has its name
+pub data FromProgram (held : Option (List Entry)) (c : RunWords) (program : List FunctionNode) : Outcome → Type 0 where
+  NoEntry : kernel_from 0 c.entry program ≡ None → FromProgram held c program (Refuses (cause.Launch 0 launch.NoEntry))
+  HasEntry : (f : FunctionNode) (o : Outcome) → IsKernelOf program c.entry f → FromKernel held c (record { program = program; kernel = f }) o →
+      FromProgram held c program o
+
+-- the most bytes of a kernel's file
+abbrev pub most_source : ℕ
+most_source = 1048576
+
+-- the source: these bytes are few enough, and have a program
 pub data FromSource (held : Option (List Entry)) (c : RunWords) (bytes : List ℕ) : Outcome → Type 0 where
-  NoKernel : ((k : Form) → IsKernelFile bytes k → ⊥) → FromSource held c bytes (Refuses (cause.Source first_place source.Subset))
-  HasKernel : (k : Form) (o : Outcome) → IsKernelFile bytes k → FromEntry held c k o → FromSource held c bytes o
+  LongSource : most_source < length bytes → FromSource held c bytes (Refuses (cause.Source first_place source.TooLong))
+  BadSource : (fault : SourceFault) → length bytes ≤ most_source → FrontOf bytes (Err fault) →
+      FromSource held c bytes (Refuses (cause.Source fault.pos fault.kind))
+  HasProgram : (program : List FunctionNode) (o : Outcome) → length bytes ≤ most_source → FrontOf bytes (Ok program) → FromProgram held c program o → FromSource held c bytes o
 
 -- the kernel's file: it is there
 pub data FromFile (held : Option (List Entry)) (c : RunWords) : Outcome → Type 0 where

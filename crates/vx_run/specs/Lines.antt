@@ -2,10 +2,9 @@ use Rattle.std.specs.Prelude.{ℕ, List, [], ◌∷◌, ◌++◌, codes}
 use Rattle.std.specs.Fmt.{decimal}
 use Rattle.vx_base.specs.Texts.{pos_text}
 use Rattle.vx_words.specs.Commands.{usage_kind_text}
-use Rattle.vx_run.specs.declared.report.SourceKind.{SourceKind}
-use Rattle.vx_run.specs.declared.report.SourceKind.TheVariants.{TooLong, Subset, Syntax, Range, NoLabel, LabelTwice, Words}
+use Rattle.vx_cc.specs.Faults.{source_kind_text}
 use Rattle.vx_run.specs.declared.report.LaunchKind.{LaunchKind}
-use Rattle.vx_run.specs.declared.report.LaunchKind.TheVariants.{NoEntry, Arguments}
+use Rattle.vx_run.specs.declared.report.LaunchKind.TheVariants.{NoEntry, NotBuilt, Arguments}
 use Rattle.vx_run.specs.declared.report.BufferKind.{BufferKind}
 use Rattle.vx_run.specs.declared.report.BufferKind.TheVariants.{Length}
 use Rattle.vx_run.specs.declared.report.Cause.{Cause}
@@ -15,17 +14,9 @@ use Rattle.vx_run.specs.declared.report.Cause.TheVariants.{Done, Usage, Source, 
 abbrev pub newline : List ℕ
 newline = 10 ∷ []
 
-abbrev pub source_kind_text : SourceKind → List ℕ
-source_kind_text TooLong = codes "TooLong"
-source_kind_text Subset = codes "Subset"
-source_kind_text Syntax = codes "Syntax"
-source_kind_text Range = codes "Range"
-source_kind_text NoLabel = codes "NoLabel"
-source_kind_text LabelTwice = codes "LabelTwice"
-source_kind_text (Words words) = codes "Words " ++ decimal words
-
 abbrev pub launch_kind_text : LaunchKind → List ℕ
 launch_kind_text NoEntry = codes "NoEntry"
+launch_kind_text NotBuilt = codes "NotBuilt"
 launch_kind_text (Arguments given wanted) = codes "Arguments " ++ decimal given ++ codes " " ++ decimal wanted
 
 abbrev pub buffer_kind_text : BufferKind → List ℕ

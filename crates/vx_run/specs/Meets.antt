@@ -4,7 +4,7 @@ use Rattle.vx_world.specs.Counts.{Rose}
 use Rattle.vx_world.specs.Writing.{Appends}
 use Rattle.vx_world.specs.declared.reading.Entry.{Entry}
 use Rattle.vx_words.specs.declared.usage.UsageKind.{UsageKind}
-use Rattle.vx_run.specs.declared.report.SourceKind.{SourceKind}
+use Rattle.vx_cc.specs.declared.faults.SourceKind.{SourceKind}
 use Rattle.vx_run.specs.declared.report.LaunchKind.{LaunchKind}
 use Rattle.vx_run.specs.declared.report.BufferKind.{BufferKind}
 use Rattle.vx_run.specs.declared.report.Cause.{Cause}

@@ -1,4 +1,4 @@
-use Rattle.std.specs.Prelude.{◌≡◌, ℕ, ◌*◌, ◌<◌, ◌≤◌, take, Some, None, List, Option, Result, Ok, Err, length, slice_index, All}
+use Rattle.std.specs.Prelude.{◌≡◌, ◌≢◌, ◌⊎◌, ℕ, ◌*◌, ◌<◌, ◌≤◌, take, Some, None, List, Option, Result, Ok, Err, length, slice_index, All}
 use Rattle.vx_world.specs.Counts.{Rose}
 use Rattle.vx_run.specs.declared.report.Cause.TheVariants as cause
 use Rattle.vx_run.specs.declared.report.Cause.{Cause}
@@ -8,9 +8,12 @@ use Rattle.vx_world.specs.declared.reading.Entry.{Entry}
 use Rattle.vx_words.specs.declared.run_words.RunWords.{RunWords}
 use Rattle.vx_words.specs.declared.usage.UsageFault.{UsageFault}
 use Rattle.vx_words.specs.declared.usage.UsageFault.TheVariants.{Usage, Memory as NoMemory}
-use Rattle.vx_run.specs.declared.report.SourceKind.TheVariants as source
-use Rattle.first_kernels.specs.FirstText.{IsKernelFile}
-use Rattle.first_kernels.specs.FirstTree.{Form}
+use Rattle.vx_cc.specs.Faults.{first_place, fault_at}
+use Rattle.vx_cc.specs.Fronts.{FrontOf}
+use Rattle.vx_cc.specs.declared.faults.SourceFault.{SourceFault}
+use Rattle.vx_cc.specs.declared.faults.SourceKind.{SourceKind}
+use Rattle.vx_cc.specs.declared.faults.SourceKind.TheVariants as source
+use Rattle.vx_base.specs.declared.types.Pos.{Pos}
 use Rattle.vx_words.specs.Words.{IsOrigin}
 use Rattle.asm_text.specs.declared.hexadecimal.HexFault.{HexFault}
 use Rattle.asm_text.specs.declared.hexadecimal.HexFault.TheVariants as hex
@@ -18,7 +21,7 @@ use Rattle.asm_text.specs.declared.statements.AsmFault.{AsmFault}
 use Rattle.asm_text.specs.declared.statements.AsmFault.TheVariants as asm
 use Rattle.vx_words.specs.declared.command.Command.{Command}
 use Rattle.vx_words.specs.declared.command.Command.TheVariants.{Run, Asm, Dis}
-use Rattle.vx_run.specs.Answers.{Outcome, Refuses, Prints, Holds, first_place, asm_cause, hex_cause}
+use Rattle.vx_run.specs.Answers.{Outcome, Refuses, Prints, Holds, most_source, asm_cause, hex_cause}
 
 -- a refusal is one that the call may come to; a read fault is one read that failed
 abbrev pub IsRefusal : (Outcome → Type 0) → Cause → Type 0
@@ -89,11 +92,23 @@ pub record IsRunnable (c : RunWords) : Type 0 where
   pub items_some : 1 ≤ c.items
   pub items_few : c.items ≤ 32
 
--- a refusal because these bytes are no file of a kernel, or want of memory
-abbrev pub IsNoKernel : List ℕ → Stop → Type 0
-IsNoKernel bytes (Refused (cause.Source pos kind)) = (pos ≡ first_place) × (kind ≡ source.Subset) × ((k : Form) → IsKernelFile bytes k → ⊥)
-IsNoKernel bytes (Refused c) = ⊥
-IsNoKernel bytes Memory = Unit {0}
+-- the bytes are too many, or have this fault
+abbrev pub IsSourceFault : List ℕ → Pos → SourceKind → Type 0
+IsSourceFault bytes pos kind =
+    ((most_source < length bytes) × (pos ≡ first_place) × (kind ≡ source.TooLong))
+    ⊎ ((length bytes ≤ most_source) × FrontOf bytes (Err (fault_at pos kind)))
+
+-- a refusal because these bytes have no program, or want of memory
+abbrev pub IsNoProgram : List ℕ → Stop → Type 0
+IsNoProgram bytes (Refused (cause.Source pos kind)) = IsSourceFault bytes pos kind
+IsNoProgram bytes (Refused c) = ⊥
+IsNoProgram bytes Memory = Unit {0}
+
+-- a fault of a source stops the call, and so does want of memory
+abbrev pub StopsForSource : SourceFault → Stop → Type 0
+StopsForSource fault (Refused (cause.Source pos kind)) = (fault ≡ fault_at pos kind) × (kind ≢ source.Memory)
+StopsForSource fault (Refused c) = ⊥
+StopsForSource fault Memory = Unit {0}
 
 -- no file stops the call
 abbrev pub IsPlain : Stop → Type 0

@@ -1,21 +1,27 @@
 //! What a call comes to, stage by stage in the order of its answers.
 
-ghost use Rattle.std.specs.Prelude.{◌≡◌, ◌-◌, ◌*◌, ◌^◌, ◌≤◌, ◌↔◌, min, All, length, map, string_bytes, IsTrue, IfOk, IfErr};
-ghost use Rattle.vx_run.specs.Answers.{first_place, FromArguments, FromCommand, FromEntry, FromFile, FromWords};
-ghost use Rattle.first_kernels.specs.FirstText.{IsKernelFile, IsWellFormed};
+ghost use Rattle.std.specs.Prelude.{◌≡◌, ◌-◌, ◌*◌, ◌^◌, ◌<◌, ◌≤◌, ◌↔◌, min, All, length, map, string_bytes, Ok, Some, IfOk, IfErr};
+ghost use Rattle.ocl_program.specs.Shapes.{function_node};
+ghost use Rattle.first_kernels.specs.FirstForms.{form_from, IsFit};
 ghost use Rattle.first_kernels.specs.FirstTree.{form_of};
-ghost use Rattle.vx_run.specs.Stages.{ComesTo, IsNoKernel, IsPlain, IsRunnable, IsRunnableCommand, StageFaults, StageMisses, StopsFor};
+ghost use Rattle.vx_cc.specs.Faults.{first_place};
+ghost use Rattle.vx_cc.specs.Fronts.{FrontOf};
+ghost use Rattle.vx_run.specs.Answers.{Chosen, FromArguments, FromCommand, FromFile, FromKernel, FromProgram, FromWords, most_source};
+ghost use Rattle.vx_run.specs.Stages.{ComesTo, IsNoProgram, IsPlain, IsRunnable, IsRunnableCommand, StageFaults, StageMisses, StopsFor, StopsForSource};
 
 use crate::launch::print_launch;
 use crate::loading::load_buffers;
 use crate::reading::read_file;
-use crate::report::{Cause, LaunchKind, SourceKind};
+use crate::report::{Cause, LaunchKind};
 use crate::stages::Stop;
-use crate::texts::{answer_asm, answer_dis};
-use first_kernels::parser::parse_kernel;
+use crate::texts::{answer_asm, answer_dis, too_long};
+use first_kernels::forms::kernel_of;
 use first_kernels::tree::Kernel;
+use ocl_program::TypedFunction;
+use ocl_types::Program;
 use std::alloc::Global;
-use vx_base::{Memory, Pos, Text};
+use vx_base::{Memory, Text};
+use vx_cc::{SourceFault, SourceKind, front};
 use vx_words::{Command, RunWords, UsageFault, read_words};
 use vx_world::Files;
 
@@ -35,7 +41,25 @@ fn wrong_arguments(given: usize, wanted: usize) -> Stop
     })
 }
 
-// The arguments and the run.
+fn no_entry() -> Stop
+    ensures { result ≡ Stop.Refused (Cause.Launch 0 LaunchKind.NoEntry) }
+{
+    Stop::Refused(Cause::Launch {
+        index: 0,
+        kind: LaunchKind::NoEntry,
+    })
+}
+
+fn not_built() -> Stop
+    ensures { result ≡ Stop.Refused (Cause.Launch 0 LaunchKind.NotBuilt) }
+{
+    Stop::Refused(Cause::Launch {
+        index: 0,
+        kind: LaunchKind::NotBuilt,
+    })
+}
+
+// The arguments and the run of a kernel of assignments.
 fn answer_arguments(
     alloc: Global,
     run: &RunWords,
@@ -43,14 +67,14 @@ fn answer_arguments(
     contents: &[Text],
 ) -> Result<Text, Stop>
     requires words { IsRunnable run.now }
-    requires kernel { IsWellFormed (form_of kernel.now) }
+    requires kernel { IsFit (form_of kernel.now) }
     requires count { length contents.now ≡ length run.now.buffers }
     requires lengths { All (λ bytes. length bytes ≡ 4 * run.now.items) contents.now }
-    ensures comes { ComesTo (FromArguments run.now (form_of kernel.now) contents.now) result }
+    ensures comes { (k : Chosen) → form_from k.kernel ≡ Some (form_of kernel.now) → ComesTo (FromArguments run.now k contents.now) result }
     ensures plain { IfErr result IsPlain }
 {
     let given = run.arguments.len();
-    let wanted = kernel.parameters.len();
+    let wanted = kernel.parameters as usize;
     if given != wanted {
         return Err(wrong_arguments(given, wanted));
     }
@@ -60,55 +84,67 @@ fn answer_arguments(
     }
 }
 
-fn is_same(name: &[u8], entry: &[u8]) -> bool
-    ensures { IsTrue result ↔ (name.now ≡ entry.now) }
-{
-    name == entry
-}
-
-// The entry and the buffers.
-fn answer_entry<F: Files>(
+// The form of a kernel, and the buffers.
+fn answer_kernel<F: Files>(
     alloc: Global,
     files: &mut F,
     run: &RunWords,
-    kernel: &Kernel,
+    function: &TypedFunction,
 ) -> Result<Text, Stop>
-    requires words { IsRunnable run.now }
-    requires kernel { IsWellFormed (form_of kernel.now) }
-    ensures comes { ComesTo (FromEntry (F.held files.old) run.now (form_of kernel.now)) result }
+    requires { IsRunnable run.now }
+    ensures comes { (k : Chosen) → k.kernel ≡ function_node function.now → ComesTo (FromKernel (F.held files.old) run.now k) result }
     ensures faults { StageFaults result (F.faults files.old) (F.faults files.new) }
     ensures misses { StageMisses result (F.misses files.old) (F.misses files.new) }
 {
-    if !is_same(kernel.name.as_slice(), run.entry.as_slice()) {
-        return Err(Stop::Refused(Cause::Launch {
-            index: 0,
-            kind: LaunchKind::NoEntry,
-        }));
-    }
+    let Some(kernel) = kernel_of(alloc, function)? else {
+        return Err(not_built());
+    };
     let contents = load_buffers(alloc, files, run)?;
-    answer_arguments(alloc, run, kernel, &contents)
+    answer_arguments(alloc, run, &kernel, &contents)
 }
 
-fn wrong_source() -> Stop
-    ensures { result ≡ Stop.Refused (Cause.Source first_place SourceKind.Subset) }
+// The entry.
+fn answer_program<F: Files>(
+    alloc: Global,
+    files: &mut F,
+    run: &RunWords,
+    program: &Program,
+) -> Result<Text, Stop>
+    requires { IsRunnable run.now }
+    ensures comes { ComesTo (FromProgram (F.held files.old) run.now (map function_node program.now.functions.items)) result }
+    ensures faults { StageFaults result (F.faults files.old) (F.faults files.new) }
+    ensures misses { StageMisses result (F.misses files.old) (F.misses files.new) }
 {
-    Stop::Refused(Cause::Source {
-        pos: Pos { line: 1, col: 1 },
-        kind: SourceKind::Subset,
-    })
+    match program.find(run.entry.as_slice()) {
+        Some(number) => answer_kernel(alloc, files, run, &program.functions[number as usize]),
+        None => Err(no_entry()),
+    }
 }
 
-// The text of the kernel.
-fn kernel_of(alloc: Global, source: &[u8]) -> Result<Kernel, Stop>
-    ensures found { IfOk result (λ kernel. IsKernelFile source.now (form_of kernel)) }
-    ensures stop { IfErr result (IsNoKernel source.now) }
+fn source_stop(fault: SourceFault) -> Stop
+    ensures { StopsForSource fault result }
+{
+    match fault.kind {
+        SourceKind::Memory => Stop::Memory,
+        kind => Stop::Refused(Cause::Source {
+            pos: fault.pos,
+            kind,
+        }),
+    }
+}
+
+// The program of a kernel's file.
+fn program_of(alloc: Global, source: &[u8]) -> Result<Program, Stop>
+    ensures few { IfOk result (λ program. length source.now ≤ most_source) }
+    ensures found { IfOk result (λ program. FrontOf source.now (Ok (map function_node program.functions.items))) }
+    ensures stop { IfErr result (IsNoProgram source.now) }
 {
     if source.len() > SOURCE_LIMIT {
-        return Err(wrong_source());
+        return Err(too_long());
     }
-    match parse_kernel(alloc, source)? {
-        Some(kernel) => Ok(kernel),
-        None => Err(wrong_source()),
+    match front(alloc, source) {
+        Ok(program) => Ok(program),
+        Err(fault) => Err(source_stop(fault)),
     }
 }
 
@@ -120,8 +156,8 @@ fn answer_file<F: Files>(alloc: Global, files: &mut F, run: &RunWords) -> Result
     ensures misses { StageMisses result (F.misses files.old) (F.misses files.new) }
 {
     let source = read_file(alloc, files, &run.file, SOURCE_LIMIT + 1)?;
-    let kernel = kernel_of(alloc, &source)?;
-    answer_entry(alloc, files, run, &kernel)
+    let program = program_of(alloc, &source)?;
+    answer_program(alloc, files, run, &program)
 }
 
 fn usage_stop(fault: UsageFault) -> Stop

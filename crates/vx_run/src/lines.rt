@@ -1,29 +1,10 @@
 ghost use Rattle.std.specs.Prelude.{◌≡◌, IfOk, IsOk, string_bytes};
 ghost use Rattle.vx_run.specs.Lines.{line_of, status_of};
 
-use crate::report::{BufferKind, Cause, LaunchKind, SourceKind};
+use crate::report::{BufferKind, Cause, LaunchKind};
 use std::alloc::{AllocError, Global};
 use std::fmt;
 use vx_base::{Memory, Pos, Text};
-
-impl fmt::Display for SourceKind {
-    ghost use Rattle.std.specs.Prelude.{Some};
-    ghost use Rattle.vx_run.specs.Lines.{source_kind_text};
-
-    ghost output = { λ kind. Some (source_kind_text kind) };
-
-    fn fmt<W: fmt::Write>(&self, f: &mut fmt::Formatter<W>) -> fmt::Result {
-        match self {
-            SourceKind::TooLong => write!(f, "TooLong"),
-            SourceKind::Subset => write!(f, "Subset"),
-            SourceKind::Syntax => write!(f, "Syntax"),
-            SourceKind::Range => write!(f, "Range"),
-            SourceKind::NoLabel => write!(f, "NoLabel"),
-            SourceKind::LabelTwice => write!(f, "LabelTwice"),
-            SourceKind::Words { words } => write!(f, "Words {words}"),
-        }
-    }
-}
 
 impl fmt::Display for LaunchKind {
     ghost use Rattle.std.specs.Prelude.{Some};
@@ -34,6 +15,7 @@ impl fmt::Display for LaunchKind {
     fn fmt<W: fmt::Write>(&self, f: &mut fmt::Formatter<W>) -> fmt::Result {
         match self {
             LaunchKind::NoEntry => write!(f, "NoEntry"),
+            LaunchKind::NotBuilt => write!(f, "NotBuilt"),
             LaunchKind::Arguments { given, wanted } => write!(f, "Arguments {given} {wanted}"),
         }
     }

@@ -1,8 +1,7 @@
 //! The buffers of a run before its launch.
 
 ghost use Rattle.std.specs.Prelude.{◌≡◌, ◌*◌, ◌≤◌, ◌<◌, length, replicate, List, [], ◌∷◌, ℕ, All, IfOk, IfErr};
-ghost use Rattle.vx_run.specs.Answers.{Brings, FromArguments, FromBuffers, Outcome};
-ghost use Rattle.first_kernels.specs.FirstTree.{Form};
+ghost use Rattle.vx_run.specs.Answers.{Chosen, Brings, FromArguments, FromBuffers, Outcome};
 ghost use Rattle.vx_run.specs.Stages.{StageFaults, StageMisses, StopsAt};
 ghost use Rattle.vx_words.specs.Words.{IsOrigin};
 ghost use Rattle.vx_words.specs.declared.run_words.BufWord.{BufWord};
@@ -45,7 +44,7 @@ fn load_buffer<F: Files>(
     ensures held { F.held files.new ≡ F.held files.old }
     ensures brings { IfOk result (λ bytes. Brings (F.held files.old) word.now.from bytes) }
     ensures length { IfOk result (λ bytes. length bytes ≡ 4 * run.now.items) }
-    ensures stop { IfErr result (λ stop. (k : Form) (more : List BufWord) (contents : List (List ℕ))
+    ensures stop { IfErr result (λ stop. (k : Chosen) (more : List BufWord) (contents : List (List ℕ))
         → StopsAt (FromBuffers (F.held files.old) run.now k index (word.now ∷ more) contents) stop) }
     ensures faults { StageFaults result (F.faults files.old) (F.faults files.new) }
     ensures misses { StageMisses result (F.misses files.old) (F.misses files.new) }
@@ -80,9 +79,9 @@ pub fn load_buffers<F: Files>(
     ensures held { F.held files.new ≡ F.held files.old }
     ensures count { IfOk result (λ contents. length contents.items ≡ length run.now.buffers) }
     ensures lengths { IfOk result (λ contents. All (λ bytes. length bytes ≡ 4 * run.now.items) contents.items) }
-    ensures loaded { IfOk result (λ contents. (k : Form) (o : Outcome) → FromArguments run.now k contents.items o
+    ensures loaded { IfOk result (λ contents. (k : Chosen) (o : Outcome) → FromArguments run.now k contents.items o
         → FromBuffers (F.held files.old) run.now k 0 run.now.buffers [] o) }
-    ensures stop { IfErr result (λ stop. (k : Form) → StopsAt (FromBuffers (F.held files.old) run.now k 0 run.now.buffers []) stop) }
+    ensures stop { IfErr result (λ stop. (k : Chosen) → StopsAt (FromBuffers (F.held files.old) run.now k 0 run.now.buffers []) stop) }
     ensures faults { StageFaults result (F.faults files.old) (F.faults files.new) }
     ensures misses { StageMisses result (F.misses files.old) (F.misses files.new) }
 {

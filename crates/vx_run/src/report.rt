@@ -1,33 +1,14 @@
 use vx_base::{Pos, Text};
+use vx_cc::SourceKind;
 use vx_words::UsageKind;
-
-/// Why a kernel's file, an assembly text or a text of words is refused.
-#[derive(Clone, Copy, Debug, PartialEq, Eq)]
-pub enum SourceKind {
-    /// The file has too many bytes.
-    TooLong,
-    /// The file is not of the form that is compiled.
-    Subset,
-    /// No text goes on so.
-    Syntax,
-    /// A number does not fit its field, or a label is too far.
-    Range,
-    /// No line has the label.
-    NoLabel,
-    /// An earlier line has the label.
-    LabelTwice,
-    /// There are more words than an image may have.
-    Words {
-        /// How many, up to the first that is one too many.
-        words: u32,
-    },
-}
 
 /// Why a launch is refused.
 #[derive(Clone, Copy, Debug, PartialEq, Eq)]
 pub enum LaunchKind {
     /// No kernel of the file has the name.
     NoEntry,
+    /// The kernel is of no form that runs so far.
+    NotBuilt,
     /// The kernel takes another number of arguments.
     Arguments {
         /// How many the words give.

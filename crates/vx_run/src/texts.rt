@@ -3,16 +3,18 @@
 ghost use Rattle.std.specs.Prelude.{◌≡◌, IfErr};
 ghost use Rattle.asm_text.specs.AsmTexts.{assembled};
 ghost use Rattle.asm_text.specs.HexLines.{hex_words_of};
-ghost use Rattle.vx_run.specs.Answers.{assembly_text_outcome, word_text_outcome, assembly_outcome, disassembly_outcome, first_place, FromBytes, FromText, most_assembly, most_word_text};
+ghost use Rattle.vx_run.specs.Answers.{assembly_text_outcome, word_text_outcome, assembly_outcome, disassembly_outcome, FromBytes, FromText, most_assembly, most_word_text};
+ghost use Rattle.vx_cc.specs.Faults.{first_place};
 ghost use Rattle.vx_run.specs.Stages.{ComesTo, IsPlain, StageFaults, StageMisses, StopsForAsm, StopsForHex};
 
 use crate::reading::read_file;
-use crate::report::{Cause, SourceKind};
+use crate::report::Cause;
 use crate::stages::Stop;
 use asm_text::{AsmFault, HexFault, hex_text, hex_words};
 use std::alloc::Global;
 use vx_asm::assemble;
 use vx_base::{Pos, Text};
+use vx_cc::SourceKind;
 use vx_disasm::disassemble;
 use vx_world::Files;
 
@@ -22,7 +24,8 @@ const ASSEMBLY_LIMIT: usize = 2_097_152;
 /// The most bytes that a text of words may have.
 const WORD_TEXT_LIMIT: usize = 1_048_576;
 
-fn too_long() -> Stop
+/// The refusal of a file that has too many bytes.
+pub fn too_long() -> Stop
     ensures { result ≡ Stop.Refused (Cause.Source first_place SourceKind.TooLong) }
 {
     Stop::Refused(Cause::Source {

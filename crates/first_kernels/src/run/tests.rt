@@ -20,25 +20,16 @@ fn operation(alloc: Global, operator: Operator, left: Sum, right: Sum) -> Result
 /// A kernel with one assignment, and as many parameters as are said.
 fn one_assignment(
     alloc: Global,
-    parameters: usize,
+    parameters: u32,
     assignment: Assignment,
 ) -> Result<Kernel, AllocError>
-    ensures count { IfOk result (λ kernel. length kernel.parameters ≡ parameters) }
+    ensures count { IfOk result (λ kernel. kernel.parameters ≡ parameters) }
     ensures assignments { IfOk result (λ kernel. kernel.assignments ≡ assignment ∷ []) }
 {
-    let mut names = Vec::new(alloc);
-    for _ in 0..parameters {
-        names.push(ListOf {
-            items: Vec::new(alloc),
-        })?;
-    }
     let mut assignments = Vec::new(alloc);
     assignments.push(assignment)?;
     Ok(Kernel {
-        name: ListOf {
-            items: Vec::new(alloc),
-        },
-        parameters: ListOf { items: names },
+        parameters,
         assignments: ListOf { items: assignments },
     })
 }

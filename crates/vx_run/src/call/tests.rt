@@ -129,8 +129,34 @@ fn refuses_words_and_texts(rt: HostRuntime) -> Result<(), Fail> {
     expect_answer(&rt, alloc, &[], TRIPLES, 1, "usage word 0 Command\n")?;
     expect_answer(&rt, alloc, &["fly"], TRIPLES, 1, "usage word 0 Command\n")?;
     expect_answer(&rt, alloc, &MANY_WORDS, TRIPLES, 1, "usage word 0 Form\n")?;
-    expect_answer(&rt, alloc, &SUM_WORDS, SUMS, 2, "source 1:1 Subset\n")?;
     expect_answer(&rt, alloc, &NO_FILE_WORDS, TRIPLES, 10, "missing w.cl\n")
+}
+
+#[test]
+fn refuses_sources(rt: HostRuntime) -> Result<(), Fail> {
+    let alloc = rt.alloc();
+    for (source, line) in [
+        ("#ifdef N", "source 1:1 BadDirective\n"),
+        (
+            "#define Y y\n__kernel void k(__global int *a) { Y = 1; }",
+            "source 2:36 Unknown\n",
+        ),
+        (
+            "__kernel void k(__global int *a) { a[0] = 1 - ; }",
+            "source 1:47 Unexpected\n",
+        ),
+        (
+            "__kernel void k(__global int *a) { int a; }",
+            "source 1:40 Twice\n",
+        ),
+        (
+            "__kernel void k(__global int *a) { double x; }",
+            "source 1:36 Subset\n",
+        ),
+    ] {
+        expect_answer(&rt, alloc, &TRIPLE_WORDS, source, 2, line)?;
+    }
+    Ok(())
 }
 
 #[test]
@@ -144,6 +170,7 @@ fn refuses_launches_and_buffers(rt: HostRuntime) -> Result<(), Fail> {
         3,
         "launch 0 NoEntry\n",
     )?;
+    expect_answer(&rt, alloc, &SUM_WORDS, SUMS, 3, "launch 0 NotBuilt\n")?;
     expect_answer(
         &rt,
         alloc,

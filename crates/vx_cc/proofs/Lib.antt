@@ -1,0 +1,3 @@
+mod FrontLaws
+pub mod OneFront
+pub mod OneRefusal
