@@ -1,5 +1,3 @@
 pub mod Trees
 pub mod Shapes
 pub mod Measures
-pub mod ExprCodes
-pub mod StmtCodes

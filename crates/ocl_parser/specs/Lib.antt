@@ -15,3 +15,5 @@ pub mod Levels
 pub mod Rooms
 pub mod Faults
 pub mod Starts
+pub mod ExprCodes
+pub mod StmtCodes

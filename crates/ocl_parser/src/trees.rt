@@ -20,7 +20,7 @@ pub struct Tree {
 impl Model for Tree {
     ghost use Rattle.std.specs.Prelude.{◌≡◌};
     ghost use Rattle.std.specs.Coded.{codes};
-    ghost use Rattle.ocl_ast.specs.ExprCodes.{expr_code};
+    ghost use Rattle.ocl_parser.specs.ExprCodes.{expr_code};
     ghost use Rattle.ocl_ast.specs.Shapes.{tree_of};
     ghost use Rattle.ocl_ast.specs.Measures.{height};
     ghost use Rattle.ocl_ast.specs.Trees.{ExprTree};
@@ -189,7 +189,7 @@ pub struct Args {
 impl Model for Args {
     ghost use Rattle.std.specs.Prelude.{◌≡◌};
     ghost use Rattle.std.specs.Coded.{codes};
-    ghost use Rattle.ocl_ast.specs.ExprCodes.{args_code};
+    ghost use Rattle.ocl_parser.specs.ExprCodes.{args_code};
     ghost use Rattle.ocl_ast.specs.Shapes.{arg_trees};
     ghost use Rattle.ocl_ast.specs.Measures.{args_height};
     ghost use Rattle.ocl_ast.specs.Trees.{ArgTrees};
@@ -249,7 +249,7 @@ pub struct Destination {
 
 impl Model for Destination {
     ghost use Rattle.std.specs.Coded.{codes};
-    ghost use Rattle.ocl_ast.specs.ExprCodes.{expr_code};
+    ghost use Rattle.ocl_parser.specs.ExprCodes.{expr_code};
     ghost use Rattle.ocl_ast.specs.Shapes.{target_tree};
     ghost use Rattle.ocl_ast.specs.Trees.{TargetTree};
 
@@ -291,8 +291,8 @@ pub struct Statement {
 
 impl Model for Statement {
     ghost use Rattle.std.specs.Coded.{codes};
-    ghost use Rattle.ocl_ast.specs.ExprCodes.{expr_code, args_code};
-    ghost use Rattle.ocl_ast.specs.StmtCodes.{stmt_code};
+    ghost use Rattle.ocl_parser.specs.ExprCodes.{expr_code, args_code};
+    ghost use Rattle.ocl_parser.specs.StmtCodes.{stmt_code};
     ghost use Rattle.ocl_ast.specs.Shapes.{stmt_tree};
     ghost use Rattle.ocl_ast.specs.Trees.{StmtTree};
 
@@ -470,8 +470,8 @@ pub struct Statements {
 
 impl Model for Statements {
     ghost use Rattle.std.specs.Coded.{codes};
-    ghost use Rattle.ocl_ast.specs.ExprCodes.{expr_code, args_code};
-    ghost use Rattle.ocl_ast.specs.StmtCodes.{stmts_code};
+    ghost use Rattle.ocl_parser.specs.ExprCodes.{expr_code, args_code};
+    ghost use Rattle.ocl_parser.specs.StmtCodes.{stmts_code};
     ghost use Rattle.ocl_ast.specs.Shapes.{stmt_trees};
     ghost use Rattle.ocl_ast.specs.Trees.{StmtTrees};
 
