@@ -137,6 +137,3 @@ fn is_left_out(kind: &TokenKind) -> bool
         _ => false,
     }
 }
-
-#[cfg(test)]
-mod tests;

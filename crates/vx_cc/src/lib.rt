@@ -12,4 +12,6 @@ pub use faults::{SourceFault, SourceKind};
 pub use sources::front;
 
 #[cfg(test)]
+mod parsing_tests;
+#[cfg(test)]
 mod tests;

@@ -1,9 +1,11 @@
-use super::*;
-use ocl_ast::{BinOp, Expr, Stmt};
-use ocl_tokens::{LeftOut, Mark};
-use std::alloc::AllocError;
+//! Texts that the parser reads and refuses. The parser has no tests of its own: it is large, and a crate with tests is proved twice.
+
+use ocl_ast::{BinOp, Expr, Stmt, Unit};
+use ocl_parser::{ParseFault, parse};
+use ocl_tokens::{LeftOut, Mark, Token, TokenKind, Tokens, Word};
+use std::alloc::{AllocError, Global};
 use std::test::Fail;
-use vx_base::Text;
+use vx_base::{Pos, Text};
 
 const MARKS: [(&str, Mark); 43] = [
     ("(", Mark::OpenParen),
