@@ -1,7 +1,6 @@
 -- Tokens have one refusal, and none where they are a text of a file within the limits.
-use Rattle.std.proofs.Common.{◌≡◌, ◌≢◌, ◌⊎◌, Bool, true, false, List, [], ◌∷◌, ◌++◌, refl, ap, sym, subst, ◌∙◌, inl, inr}
+use Rattle.std.proofs.Common.{◌≡◌, ◌≢◌, Bool, true, false, List, [], ◌∷◌, ◌++◌, refl, ap, sym, subst, ◌∙◌}
 use Rattle.std.proofs.lemmas.List.{append_assoc}
-use Rattle.vx_base.specs.declared.types.Pos.{Pos}
 use Rattle.ocl_ast.specs.Trees.{FunctionTree}
 use Rattle.ocl_tokens.specs.declared.tokens.Token.{Token}
 use Rattle.ocl_parser.specs.Faults.{is_left_out, BeginNoFile, BeginSomeFile, BeginNoFileWithin, BeginSomeFileWithin, IsFaultOf, IsRefused}
