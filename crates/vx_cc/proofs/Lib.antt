@@ -1,3 +1,2 @@
 mod FrontLaws
 pub mod OneFront
-pub mod OneRefusal

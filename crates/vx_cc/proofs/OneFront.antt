@@ -8,6 +8,7 @@ use Rattle.ocl_parser.specs.Faults.{IsRefused}
 use Rattle.ocl_parser.specs.Units.{Derives}
 use Rattle.ocl_parser.specs.declared.parsing.ParseFault.{ParseFault}
 use Rattle.ocl_parser.specs.declared.parsing.ParseFault.TheVariants as parse
+use Rattle.ocl_parser.proofs.RefusalLaws.{refused_once, refused_none}
 use Rattle.ocl_parser.proofs.UnitComplete.{one_file}
 use Rattle.ocl_program.specs.Nodes.{FunctionNode}
 use Rattle.ocl_tokens.specs.declared.tokens.Token.{Token}
@@ -16,7 +17,6 @@ use Rattle.ocl_types.specs.declared.faults.TypeFault.{TypeFault}
 use Rattle.vx_cc.specs.declared.faults.SourceFault.{SourceFault}
 use Rattle.vx_cc.specs.Faults.{lex_fault, parse_fault, type_fault}
 use Rattle.vx_cc.specs.Fronts.{Reads, FrontOf, BadTokens, BadTree, BadTypes, HasProgram}
-use Rattle.vx_cc.proofs.OneRefusal.{one_refusal, refused_derive_none}
 
 oks_same : {X E : Type 0} (r : Result X E) (x y : X) → r ≡ Ok x → r ≡ Ok y → x ≡ y
 oks_same r x y e f = cc
@@ -37,7 +37,7 @@ module _ (bytes : List ℕ) where
   not_read : (tokens : List Token) (fault : ParseFault) (fs : List FunctionTree) → tokens_of bytes ≡ Ok tokens → fault ≢ parse.Memory → IsRefused fault tokens → Reads bytes fs → ⊥
   not_read tokens fault fs lexed is refused r =
       let same : r.tokens ≡ tokens = oks_same (tokens_of bytes) r.tokens tokens r.lexed lexed in
-      refused_derive_none fault tokens fs is refused (subst (λ ts. Derives ts fs) same r.derives) r.within
+      refused_none tokens fault refused is fs (subst (λ ts. Derives ts fs) same r.derives) r.within
 
   -- two readings have one typing
   typed_same : (fs gs : List FunctionTree) (r : Result (List FunctionNode) TypeFault) → Reads bytes fs → Reads bytes gs → program_of gs ≡ r → program_of fs ≡ r
@@ -51,7 +51,7 @@ module _ (bytes : List ℕ) where
   one_front r s (BadTree ts f e is refused) (BadTokens g e') = absurd (ok_err (tokens_of bytes) ts g e e')
   one_front r s (BadTree ts f e is refused) (BadTree ts' g e' is' refused') =
       let same : ts' ≡ ts = oks_same (tokens_of bytes) ts' ts e' e in
-      ap (λ (x : ParseFault). Err (parse_fault x)) (one_refusal f g ts is is' refused (subst (λ x. IsRefused g x) same refused'))
+      ap (λ (x : ParseFault). Err (parse_fault x)) (refused_once ts f g refused (subst (λ x. IsRefused g x) same refused') is is')
   one_front r s (BadTree ts f e is refused) (BadTypes gs g reads e') = absurd (not_read ts f gs e is refused reads)
   one_front r s (BadTree ts f e is refused) (HasProgram gs p reads e') = absurd (not_read ts f gs e is refused reads)
   one_front r s (BadTypes fs f reads e) (BadTokens g e') = absurd (ok_err (tokens_of bytes) reads.tokens g reads.lexed e')
