@@ -1,13 +1,8 @@
 -- A kernel of assignments asks, as a resolved program, for what its form asks for.
-use Rattle.std.proofs.Common.{◌≡◌, ℕ, zero, suc, ◌+◌, ◌*◌, ◌%◌, ◌^◌, ◌<◌, Bool, true, false, not, ◌&&◌, nat_lt, nat_eq, ltb, if◌then◌else◌, List, [], ◌∷◌, ◌++◌, length, Option, Some, None, refl, sym, ap, subst, ◌∙◌, arith}
-use Rattle.vx_base.specs.declared.types.Elem.TheVariants.{Int}
-use Rattle.vx_base.specs.declared.types.Pos.{Pos}
-use Rattle.vx_base.specs.declared.types.Size.TheVariants.{Four}
+use Rattle.std.proofs.Common.{◌≡◌, ℕ, zero, suc, List, [], ◌∷◌, refl, sym, ap, ◌∙◌}
 use Rattle.item_acts.specs.declared.acts.Action.{Action}
-use Rattle.item_acts.specs.declared.acts.Action.TheVariants.{Load, Store, End}
 use Rattle.item_acts.specs.declared.acts.Asked.{Asked}
 use Rattle.item_acts.specs.declared.acts.Asked.TheVariants.{Act, Running}
-use Rattle.item_acts.specs.declared.acts.Place.TheVariants.{Global}
 use Rattle.item_acts.specs.Machine.{Step, Go, Ask, Stop, asked_at_once, asked_behind, asked, Asks}
 
 -- The first machine asks for what the second asks for, and the other way round.

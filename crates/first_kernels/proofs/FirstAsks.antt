@@ -1,20 +1,19 @@
 -- A work-item of a kernel of assignments asks, by the semantics of the resolved program, for what its form asks for.
-use Rattle.std.proofs.Common.{◌≡◌, ℕ, zero, suc, ◌+◌, ◌*◌, ◌%◌, ◌^◌, ◌<◌, ◌≤◌, Bool, true, false, not, ◌&&◌, nat_lt, nat_eq, ltb, cond, List, [], ◌∷◌, length, Option, Some, None, refl, sym, ap, subst, ◌∙◌, arith, eqb-true, ltb-true, lt-ltb}
+use Rattle.std.proofs.Common.{◌≡◌, ℕ, ◌*◌, ◌%◌, ◌^◌, ◌<◌, Bool, true, false, not, ◌&&◌, nat_eq, ltb, List, [], ◌∷◌, Option, Some, None, refl, sym, ap, subst, ◌∙◌, arith, eqb-true, ltb-true, lt-ltb}
 use Rattle.std.proofs.Math.ListN.{get_or-eq_default}
 use Rattle.std.proofs.Math.Nat.{mod-eq_of_lt}
-use Rattle.std.specs.Prelude.{slice_get, slice_index_or}
-use Rattle.vx_base.specs.declared.types.Elem.{Elem}
+use Rattle.std.specs.Prelude.{slice_index_or}
 use Rattle.vx_base.specs.declared.types.Elem.TheVariants.{Int}
 use Rattle.vx_base.specs.declared.types.Pos.{Pos}
 use Rattle.vx_base.specs.declared.types.Size.TheVariants.{Four}
 use Rattle.item_acts.specs.declared.acts.Action.TheVariants.{Load as LoadAction, Store as StoreAction, End}
 use Rattle.item_acts.specs.declared.acts.Place.TheVariants.{Global}
-use Rattle.item_acts.specs.Machine.{Go, Ask, Stop}
+use Rattle.item_acts.specs.Machine.{Go, Ask}
 use Rattle.ocl_ast.specs.declared.exprs.BinOp.{BinOp}
 use Rattle.ocl_ast.specs.declared.exprs.BinOp.TheVariants as binary
 use Rattle.ocl_ast.specs.declared.stmts.AssignOp.TheVariants.{Set, With, Up, Down}
 use Rattle.ocl_program.specs.declared.exprs.ArrayRef.{ArrayRef}
-use Rattle.ocl_program.specs.declared.exprs.ArrayRef.TheVariants.{Parameter, Declared}
+use Rattle.ocl_program.specs.declared.exprs.ArrayRef.TheVariants.{Parameter}
 use Rattle.ocl_program.specs.declared.exprs.Builtin.{Builtin}
 use Rattle.ocl_program.specs.declared.exprs.Builtin.TheVariants as builtin
 use Rattle.ocl_program.specs.Nodes.{ExprNode, NumberNode, VariableNode, UnaryNode, BinaryNode, BothNode, EitherNode, ChooseNode, CastNode, LoadNode, CallNode, BuiltinNode, ParenNode, ArgNodes, NoArgs, ValueArg, ArrayArg, StmtNode, DeclareNode, LocalArrayNode, SetVariableNode, SetElementNode, CallStmtNode, BarrierNode, IfNode, IfElseNode, WhileNode, DoNode, ForNode, BreakNode, ContinueNode, ReturnNode, BlockNode, EmptyNode, StmtNodes, NoStmts, AndStmt, FunctionNode}
@@ -27,10 +26,10 @@ use Rattle.ocl_sem.specs.Tasks as task
 use Rattle.first_kernels.specs.declared.tree.Operator.{Operator}
 use Rattle.first_kernels.specs.declared.tree.Operator.TheVariants.{Add, Subtract, Multiply}
 use Rattle.first_kernels.specs.FirstForms.{is_zero, is_zero_literal, is_global_id, is_own_id, operator_of, own_parameter, sum_from, assignment_from, assignments_from, followed}
-use Rattle.first_kernels.specs.FirstTree.{Tree, Literal, OwnId, OwnElement, Grouped, Applied, Assigns}
+use Rattle.first_kernels.specs.FirstTree.{Tree, Literal, OwnId, OwnElement, Grouped, Assigns}
 use Rattle.first_kernels.specs.First.{Task, TakeNumber, TakeId, LoadFrom, Operate, StoreTo, evaluation, body_tasks, operated, Item, item_step}
 use Rattle.first_kernels.proofs.FirstAlike.{IsAlike, alike_both, alike_second, alike_ask, alike_stop}
-use Rattle.first_kernels.proofs.FirstFormLaws.{cond_is, both_hold, own_is, applied_is, mapped_is, IsAssigned, assignment_is}
+use Rattle.first_kernels.proofs.FirstFormLaws.{cond_is, both_hold, own_is, applied_is, mapped_is, assignment_is}
 use Rattle.first_kernels.proofs.FirstLaunchItem.{operated-word}
 
 -- the item's id, in the only way in which it is written

@@ -1,6 +1,6 @@
 -- The launch of a kernel of assignments, by the work-item semantics, leaves what that of its form leaves.
-use Rattle.std.proofs.Common.{◌≡◌, ℕ, zero, suc, ◌+◌, ◌*◌, ◌/◌, ◌%◌, ◌^◌, ◌<◌, ◌≤◌, Bool, true, false, ◌&&◌, cond, leb, ltb, List, [], ◌∷◌, length, map, Option, Some, None, refl, sym, ap, subst, ◌∙◌, arith}
-use Rattle.std.specs.Prelude.{slice_get, slice_index, option_map}
+use Rattle.std.proofs.Common.{◌≡◌, ℕ, zero, suc, ◌+◌, ◌*◌, ◌/◌, ◌%◌, ◌^◌, ◌<◌, ◌≤◌, true, false, cond, leb, ltb, List, [], ◌∷◌, length, Some, None, refl, sym, ap, subst, ◌∙◌, arith}
+use Rattle.std.specs.Prelude.{slice_get, slice_index}
 use Rattle.std.specs.List.{AllByRecursion, list_all}
 use Rattle.std.proofs.Math.Nat.{div-eq_of_lt, mod-eq_of_lt, zero-mod}
 use Rattle.std.proofs.lemmas.Bool.{leb-true}
@@ -12,7 +12,6 @@ use Rattle.item_acts.specs.declared.acts.Bound.TheVariants.{Array}
 use Rattle.item_acts.specs.Tame.{LaunchLeaves}
 use Rattle.ocl_ast.specs.declared.units.Param.{Param}
 use Rattle.ocl_program.specs.declared.exprs.ArrayRef.TheVariants.{Parameter}
-use Rattle.ocl_program.specs.declared.exprs.Builtin.TheVariants.{GlobalId}
 use Rattle.ocl_ast.specs.declared.stmts.AssignOp.TheVariants.{Set, With, Up, Down}
 use Rattle.ocl_program.specs.Nodes.{StmtNode, DeclareNode, LocalArrayNode, SetVariableNode, SetElementNode, CallStmtNode, BarrierNode, IfNode, IfElseNode, WhileNode, DoNode, ForNode, BreakNode, ContinueNode, ReturnNode, BlockNode, EmptyNode, StmtNodes, NoStmts, AndStmt, FunctionNode}
 use Rattle.ocl_sem.specs.Settings.{setting_of, array_of, bound_values, global_id, bound_array}
@@ -23,7 +22,7 @@ use Rattle.first_kernels.specs.FirstSources.{one_group, int_bounds, source_launc
 use Rattle.first_kernels.specs.FirstTree.{Assigns, Form, height}
 use Rattle.first_kernels.specs.FirstValues.{IsAssignmentOf, IsLaunchable}
 use Rattle.first_kernels.proofs.FirstAsks.{body_alike, followed_is, int_buffer}
-use Rattle.first_kernels.proofs.FirstFormLaws.{cond_is, both_hold, mapped_is, sum_is, assignment_is}
+use Rattle.first_kernels.proofs.FirstFormLaws.{both_hold, mapped_is, sum_is, assignment_is}
 use Rattle.first_kernels.proofs.SameLaunches.{leaves_there}
 
 -- what a kernel that has a form is

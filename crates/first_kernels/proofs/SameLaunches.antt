@@ -1,12 +1,12 @@
 -- Two launches whose items ask for the same leave the same bytes.
-use Rattle.std.proofs.Common.{◌≡◌, ℕ, ◌<◌, ◌≤◌, List, [], ◌∷◌, refl, sym, ap, subst, ◌∙◌}
+use Rattle.std.proofs.Common.{◌≡◌, ℕ, ◌<◌, List, [], ◌∷◌, refl, sym, ap, subst, ◌∙◌}
 use Rattle.item_acts.specs.declared.acts.Action.{Action}
 use Rattle.item_acts.specs.declared.acts.Action.TheVariants.{Load, Store, Barrier, Fault, End}
 use Rattle.item_acts.specs.declared.acts.Asked.{Asked}
 use Rattle.item_acts.specs.declared.acts.Place.{Place}
 use Rattle.item_acts.specs.declared.acts.Place.TheVariants.{Global, Local}
 use Rattle.item_acts.specs.declared.acts.Point.{Point}
-use Rattle.item_acts.specs.Launches.{Launch, ItemAsks, State, Turn, Does, Passes, start, after, IsInside, IsTurn, MayDo, Waits, MayPass, May, run}
+use Rattle.item_acts.specs.Launches.{Launch, ItemAsks, State, Turn, Does, Passes, start, after, IsInside, IsTurn, MayDo, MayPass, May, run}
 use Rattle.item_acts.specs.Tame.{IsFirst, RunsFirst, LaunchLeaves}
 
 -- the launch with items that ask so

@@ -1,5 +1,5 @@
 -- From stage to stage of the front.
-use Rattle.std.proofs.Common.{◌≡◌, ◌≢◌, ◌⊎◌, ℕ, zero, suc, ◌<◌, ◌≤◌, List, [], ◌∷◌, ◌++◌, length, refl, ap, sym, subst, ◌∙◌, inl, inr, arith}
+use Rattle.std.proofs.Common.{◌≡◌, ◌⊎◌, ℕ, zero, suc, ◌≤◌, List, [], ◌∷◌, length, refl, ap, subst, inl, inr, arith}
 use Rattle.std.specs.Prelude.{Result, Ok, Err, IfOk}
 use Rattle.ocl_ast.specs.Trees.{FunctionTree}
 use Rattle.ocl_lex.specs.Events.{Event, Show, Use, Stop, within, with_front}
@@ -10,7 +10,6 @@ use Rattle.ocl_lex.specs.declared.faults.LexFault.TheVariants as lex
 use Rattle.ocl_parser.specs.Faults.{AreEnded, IsRefused}
 use Rattle.ocl_parser.specs.declared.parsing.ParseFault.{ParseFault}
 use Rattle.ocl_parser.specs.declared.parsing.ParseFault.TheVariants as parse
-use Rattle.ocl_program.specs.Nodes.{FunctionNode}
 use Rattle.ocl_tokens.specs.declared.tokens.Token.{Token}
 use Rattle.ocl_types.specs.Functions.{program_of}
 use Rattle.ocl_types.specs.declared.faults.TypeFault.{TypeFault}

@@ -1,5 +1,5 @@
 -- The bytes of a kernel file come to one thing.
-use Rattle.std.proofs.Common.{◌≡◌, ◌≢◌, ℕ, List, ap, sym, subst, ◌∙◌}
+use Rattle.std.proofs.Common.{◌≡◌, ◌≢◌, ℕ, List, ap, subst, ◌∙◌}
 use Rattle.std.specs.Prelude.{Result, Ok, Err}
 use Rattle.ocl_ast.specs.Trees.{FunctionTree}
 use Rattle.ocl_lex.specs.Lines.{tokens_of}

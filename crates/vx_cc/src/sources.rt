@@ -1,7 +1,7 @@
 ghost use Rattle.std.specs.Prelude.{◌≡◌, ◌⊎◌, ◌<◌, ◌≤◌, ◌^◌, ℕ, List, Ok, Err, IfOk, IfErr, length, map};
 ghost use Rattle.ocl_ast.specs.Shapes.{unit_trees};
 ghost use Rattle.ocl_lex.specs.Lines.{tokens_of};
-ghost use Rattle.ocl_parser.specs.Faults.{AreEnded, IsRefused};
+ghost use Rattle.ocl_parser.specs.Faults.{AreEnded};
 ghost use Rattle.ocl_parser.specs.Limits.{AreWithin};
 ghost use Rattle.ocl_parser.specs.Units.{Derives};
 ghost use Rattle.ocl_program.specs.Shapes.{function_node};

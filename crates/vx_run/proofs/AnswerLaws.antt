@@ -1,11 +1,10 @@
 -- From stage to stage of a call.
-use Rattle.std.proofs.Common.{◌≡◌, ◌≢◌, ◌⊎◌, ℕ, zero, suc, ◌+◌, ◌-◌, ◌^◌, ◌≤◌, ◌<◌, min, List, [], ◌∷◌, length, take, get_or, map, Some, refl, ap, sym, ◌∙◌, subst, arith, All, Ok, Err, length-take, inl, inr}
+use Rattle.std.proofs.Common.{◌≡◌, ◌≢◌, ◌⊎◌, ℕ, zero, suc, ◌-◌, ◌^◌, ◌≤◌, ◌<◌, min, List, [], ◌∷◌, length, get_or, map, Some, refl, ap, sym, ◌∙◌, subst, arith, Ok, Err, length-take, inl, inr}
 use Rattle.std.specs.Prelude.{Option, None, Result, IfErr, slice_get}
 use Rattle.std.proofs.lemmas.List.{take_all}
 use Rattle.std.specs.List.{AllByRecursion}
 use Rattle.std.proofs.lemmas.List.Elements.{All-from_recursion}
 use Rattle.vx_world.specs.declared.reading.Entry.{Entry}
-use Rattle.vx_run.specs.declared.report.Cause.{Cause}
 use Rattle.vx_run.specs.declared.report.Cause.TheVariants.{Usage, Source, Launch, ReadFault, Missing}
 use Rattle.vx_run.specs.declared.report.LaunchKind.TheVariants.{NoEntry, NotBuilt, Arguments}
 use Rattle.item_acts.specs.Tame.{LaunchLeaves}
@@ -30,15 +29,15 @@ use Rattle.vx_cc.specs.Faults.{first_place, fault_at, no_memory}
 use Rattle.vx_cc.specs.Fronts.{FrontOf}
 use Rattle.vx_cc.specs.declared.faults.SourceFault.{SourceFault}
 use Rattle.vx_cc.specs.declared.faults.SourceKind.{SourceKind}
-use Rattle.vx_words.specs.Words.{IsRun, IsOrigin, AreNumbersOf}
+use Rattle.vx_words.specs.Words.{IsRun, AreNumbersOf}
 use Rattle.vx_words.specs.declared.command.Command.{Command}
 use Rattle.vx_words.specs.declared.command.Command.TheVariants.{Run, Asm, Dis}
 use Rattle.vx_words.specs.declared.usage.UsageKind.{UsageKind}
 use Rattle.vx_words.specs.Commands as commands
 use Rattle.vx_words.specs.Commands.{IsCommand, IsUsage}
 use Rattle.vx_run.specs.Answers as answers
-use Rattle.vx_run.specs.Answers.{Outcome, Refuses, Prints, Chosen, bytes_in, most_source, FromArguments, WrongArguments, Runs, FromBuffers, FromKernel, HasForm, FromProgram, HasEntry, FromSource, LongSource, BadSource, HasProgram, FromFile, NoFile, HasFile, FromWords, WrongWords, RightWords}
-use Rattle.vx_run.specs.Stages.{StopsAt, ComesTo, StopFaults, StageFaults, StageMisses, ReadsFront, StopsReading, IsRunnable, IsRunnableCommand, IsSourceFault, IsNoProgram, IsPlain, StopsFor, StopsForSource}
+use Rattle.vx_run.specs.Answers.{Outcome, Refuses, Prints, Chosen, bytes_in, most_source, FromArguments, WrongArguments, Runs, FromBuffers, FromKernel, HasForm, FromProgram, HasEntry, FromSource, LongSource, BadSource, HasProgram, FromFile, NoFile, HasFile, FromWords, WrongWords}
+use Rattle.vx_run.specs.Stages.{StopsAt, ComesTo, StageFaults, StageMisses, ReadsFront, StopsReading, IsRunnable, IsRunnableCommand, IsSourceFault, IsNoProgram, IsPlain, StopsFor, StopsForSource}
 use Rattle.vx_run.proofs.LoadingLaws.{StopsAt-map}
 
 -- what comes of one stage comes of the one before it

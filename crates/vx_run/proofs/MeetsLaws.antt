@@ -1,22 +1,20 @@
 -- What a call meets, by what is known of its end.
-use Rattle.std.proofs.Common.{◌≡◌, ℕ, suc, ◌⊎◌, ◌∷◌, inl, inr, List, [], ◌++◌, length, take, Some, refl, ap, sym, ◌∙◌, subst, append-nil}
+use Rattle.std.proofs.Common.{◌≡◌, ℕ, suc, ◌⊎◌, ◌∷◌, inl, inr, List, [], ◌++◌, Some, refl, ap, sym, ◌∙◌, subst, append-nil}
 use Rattle.std.specs.Prelude.{Option, None}
-use Rattle.vx_base.specs.declared.types.Pos.{Pos}
 use Rattle.vx_world.specs.Counts.{Rose}
 use Rattle.vx_world.specs.Writing.{Appends}
 use Rattle.vx_world.specs.declared.reading.Entry.{Entry}
 use Rattle.vx_words.specs.declared.run_words.BufWord.{BufWord}
 use Rattle.vx_words.specs.declared.run_words.RunWords.{RunWords}
-use Rattle.vx_words.specs.declared.usage.UsageKind.{UsageKind}
 use Rattle.ocl_program.specs.Nodes.{FunctionNode}
 use Rattle.vx_run.specs.declared.report.Cause.{Cause}
 use Rattle.vx_run.specs.declared.report.Cause.TheVariants.{Done, Usage, Source, Launch, Buffer, Trap, Stuck, Turns, ReadFault, WriteFault, Memory, Missing}
 use Rattle.vx_run.specs.declared.report.Report.{Report}
 use Rattle.vx_run.specs.Answers.{Chosen, Outcome, Refuses, Prints, FromWords, FromFile, FromSource, FromProgram, FromKernel, FromBuffers, FromArguments, WrongWords, RightWords, most_assembly, most_word_text, NoFile, HasFile, LongSource, BadSource, HasProgram, NoEntry, HasEntry, NotBuilt, HasForm, NoBuffers, NoBufferFile, WrongLength, NextBuffer, WrongArguments, Runs}
-use Rattle.vx_run.specs.Delivery.{AppendsSome, IsReportOf, Delivers, WholeText, SinkFailed, NoMemory}
+use Rattle.vx_run.specs.Delivery.{IsReportOf, Delivers, WholeText, SinkFailed, NoMemory}
 use Rattle.vx_run.specs.Lines.{line_of, status_of}
 use Rattle.vx_run.specs.Meets as promises
-use Rattle.vx_run.specs.Meets.{Outside, IsTold, EndsFor, EndsUnread, AnswerText, PrintedText, RefusalLine, FaultLine, IsRefused, IsPrefix, VxMeets}
+use Rattle.vx_run.specs.Meets.{Outside, IsTold, EndsUnread, AnswerText, PrintedText, RefusalLine, FaultLine, IsRefused, IsPrefix, VxMeets}
 use Rattle.vx_run.specs.Stages.{IsRefusal, CausesFaults, CausesMisses}
 use Rattle.vx_words.specs.declared.command.Command.TheVariants.{Run, Asm, Dis}
 use Rattle.vx_run.proofs.Answerable.{IsAnswerable, MayBe, of_text, of_text_may}

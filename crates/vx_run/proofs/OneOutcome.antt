@@ -1,5 +1,5 @@
 -- A call whose files tell what they have comes to one refusal at most, or only to texts that it prints.
-use Rattle.std.proofs.Common.{◌≡◌, ◌≢◌, ℕ, suc, ◌*◌, ◌<◌, ◌≤◌, List, [], ◌∷◌, ◌++◌, length, Some, refl, ap, sym, ◌∙◌, subst, arith, codes, map}
+use Rattle.std.proofs.Common.{◌≡◌, ℕ, suc, ◌*◌, List, [], ◌∷◌, ◌++◌, length, Some, refl, ap, sym, ◌∙◌, subst, arith}
 use Rattle.std.specs.Prelude.{Option, None, Result, Ok, Err, slice_get}
 use Rattle.vx_world.specs.declared.reading.Entry.{Entry}
 use Rattle.vx_world.specs.Reading.{bytes_named}
@@ -15,7 +15,6 @@ use Rattle.first_kernels.specs.FirstForms.{form_from}
 use Rattle.ocl_program.specs.Nodes.{FunctionNode}
 use Rattle.ocl_types.specs.Functions.{kernel_from}
 use Rattle.vx_cc.specs.declared.faults.SourceFault.{SourceFault}
-use Rattle.vx_cc.specs.Fronts.{FrontOf}
 use Rattle.vx_cc.proofs.OneFront.{one_front}
 use Rattle.vx_words.specs.declared.command.Command.{Command}
 use Rattle.vx_words.specs.declared.command.Command.TheVariants.{Run, Asm, Dis}

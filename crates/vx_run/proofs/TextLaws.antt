@@ -1,5 +1,5 @@
 -- From the bytes of a text's file to what the call comes to.
-use Rattle.std.proofs.Common.{◌≡◌, ℕ, ◌+◌, ◌<◌, ◌≤◌, ◌⊎◌, inl, inr, min, List, length, take, refl, ap, sym, ◌∙◌, subst, arith, Result, Ok, Err, length-take}
+use Rattle.std.proofs.Common.{◌≡◌, ℕ, ◌+◌, ◌<◌, ◌≤◌, ◌⊎◌, inl, inr, min, List, length, take, ap, sym, ◌∙◌, subst, arith, Ok, Err, length-take}
 use Rattle.std.specs.Prelude.{Option}
 use Rattle.std.proofs.lemmas.List.{take_all}
 use Rattle.vx_world.specs.declared.reading.Entry.{Entry}
@@ -10,13 +10,12 @@ use Rattle.asm_text.specs.declared.statements.AsmFault.TheVariants as asm
 use Rattle.asm_text.specs.AsmTexts.{assembled}
 use Rattle.asm_text.specs.HexLines.{hex_lines, hex_words_of}
 use Rattle.vx_disasm.specs.Texts.{lines_text}
-use Rattle.vx_run.specs.declared.report.Cause.{Cause}
 use Rattle.vx_run.specs.declared.report.Cause.TheVariants.{Source, ReadFault, Missing}
 use Rattle.vx_cc.specs.Faults.{first_place}
 use Rattle.vx_cc.specs.declared.faults.SourceKind.TheVariants as kind
 use Rattle.vx_run.specs.declared.stages.Stop.{Stop}
 use Rattle.vx_run.specs.declared.stages.Stop.TheVariants as stop
-use Rattle.vx_run.specs.Answers.{assembly_text_outcome, word_text_outcome, Outcome, Refuses, Prints, FromBytes, TooLong, BadText, GoodText, FromText, NoText, HasText, asm_cause, hex_cause, assembly_outcome, disassembly_outcome}
+use Rattle.vx_run.specs.Answers.{assembly_text_outcome, word_text_outcome, Outcome, Refuses, Prints, FromBytes, TooLong, BadText, GoodText, FromText, NoText, HasText, assembly_outcome, disassembly_outcome}
 use Rattle.vx_run.specs.Stages.{StopsAt, StopsReading, ReadsFront, StopsForAsm, StopsForHex}
 
 -- what stops the read of a text's file stops the call

@@ -1,10 +1,9 @@
 //! What a call comes to, stage by stage in the order of its answers.
 
-ghost use Rattle.std.specs.Prelude.{◌≡◌, ◌-◌, ◌*◌, ◌^◌, ◌<◌, ◌≤◌, ◌↔◌, min, All, length, map, string_bytes, Ok, Some, IfOk, IfErr};
+ghost use Rattle.std.specs.Prelude.{◌≡◌, ◌-◌, ◌*◌, ◌^◌, ◌<◌, ◌≤◌, min, All, length, map, string_bytes, Ok, Some, IfOk, IfErr};
 ghost use Rattle.ocl_program.specs.Shapes.{function_node};
 ghost use Rattle.first_kernels.specs.FirstForms.{form_from, IsFit};
 ghost use Rattle.first_kernels.specs.FirstTree.{form_of};
-ghost use Rattle.vx_cc.specs.Faults.{first_place};
 ghost use Rattle.vx_cc.specs.Fronts.{FrontOf};
 ghost use Rattle.vx_run.specs.Answers.{Chosen, FromArguments, FromCommand, FromFile, FromKernel, FromProgram, FromWords, most_source};
 ghost use Rattle.vx_run.specs.Stages.{ComesTo, IsNoProgram, IsPlain, IsRunnable, IsRunnableCommand, StageFaults, StageMisses, StopsFor, StopsForSource};

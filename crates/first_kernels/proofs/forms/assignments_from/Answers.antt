@@ -1,4 +1,4 @@
-use Rattle.std.proofs.Common.{map, sym, arith}
+use Rattle.std.proofs.Common.{map, arith}
 use Rattle.std.proofs.lemmas.Result.{err_from_is_err_and}
 use Rattle.first_kernels.specs.FirstTree.{assigns_of}
 use Rattle.first_kernels.proofs.FirstFormLoops.{none_yet, one_more, no_more, all_made}

@@ -2,7 +2,7 @@ use Rattle.std.proofs.Common.{◌≡◌, sym, ap, ◌∙◌, map}
 use Rattle.ocl_program.specs.Nodes.{arg_nodes}
 use Rattle.ocl_program.specs.Shapes.{argument_node, node_of}
 use Rattle.ocl_program.proofs.Rows.{builtin_node}
-use Rattle.first_kernels.specs.FirstForms.{is_own_id, is_zero}
+use Rattle.first_kernels.specs.FirstForms.{is_zero}
 use Rattle.first_kernels.proofs.forms.is_own_id.Goals as goal
 
 pub returns-then-is_global_id : goal.returns-then-is_global_id

@@ -1,4 +1,4 @@
-use Rattle.std.proofs.Common.{◌≡◌, map, string_bytes, ◌∙◌, ap, Err}
+use Rattle.std.proofs.Common.{map, string_bytes, ◌∙◌, ap, Err}
 use Rattle.vx_run.proofs.AnswerLaws.{ComesTo-map, runnable_command, usage_stops}
 use Rattle.vx_run.specs.Answers.{FromCommand, FromWords, RightWords}
 use Rattle.vx_run.proofs.answer.answer.Goals as goal

@@ -1,4 +1,4 @@
-use Rattle.std.proofs.Common.{◌≡◌, length, sym, ◌∙◌}
+use Rattle.std.proofs.Common.{sym, ◌∙◌}
 use Rattle.first_kernels.specs.FirstTree.{form_of}
 use Rattle.first_kernels.proofs.FirstSourceLaws.{has_form}
 use Rattle.vx_run.proofs.AnswerLaws.{arguments_refused, launch_prints, launchable_form}

@@ -1,8 +1,8 @@
-use Rattle.std.proofs.Common.{◌≡◌, Some, None, ap, sym, ◌∙◌, subst}
+use Rattle.std.proofs.Common.{◌≡◌, Some, ap, sym, ◌∙◌, subst}
 use Rattle.std.specs.Prelude.{option_map}
 use Rattle.std.proofs.lemmas.Result.{err_from_is_err_and}
 use Rattle.first_kernels.specs.FirstForms.{form_from}
-use Rattle.first_kernels.specs.FirstTree.{Form, form_of}
+use Rattle.first_kernels.specs.FirstTree.{form_of}
 use Rattle.vx_run.specs.Answers.{FromArguments}
 use Rattle.vx_run.proofs.AnswerLaws.{ComesTo-map, form_refused, form_comes}
 use Rattle.vx_run.proofs.LoadingLaws.{StopsAt-map}

@@ -1,4 +1,4 @@
-use Rattle.std.proofs.Common.{◌≡◌, ℕ, List, Some, None, map, ap, refl, sym, ◌∙◌}
+use Rattle.std.proofs.Common.{◌≡◌, ℕ, List, Some, map, ap, refl, sym, ◌∙◌}
 use Rattle.ocl_program.specs.Nodes.{FunctionNode}
 use Rattle.ocl_program.specs.Shapes.{function_node}
 use Rattle.ocl_types.specs.Functions.{kernel_from}
