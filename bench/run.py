@@ -2,8 +2,9 @@
 """Runs the built program on stated inputs, and prints wall time and peak memory as a table.
 
   bench/run.py        after ./vx has built the program once
-  bench/run.py front  texts of 1,048,576 bytes from bytes to tokens: names, punctuators, uses of macros, and macros that stand in one
-                      another; after rt ci or, in crates/front_speed, rt run has built that program
+  bench/run.py front  texts of 1,048,576 bytes from bytes to tokens: names, punctuators, uses of macros, macros that stand in one another,
+                      a program, from bytes to its trees, and a thousand functions, from bytes to their program; after rt ci or, in
+                      crates/front_speed, rt run has built that program
   bench/run.py ports  millions of stores a second to shared words, by one to four threads; after rt ci or, in crates/port_steps,
                       rt run has built that program
   bench/run.py lanes  millions of lane instructions a second of processor time of one warp with 1, 8 and 32 active lanes in a
@@ -145,13 +146,13 @@ def core():
 def front():
     if not os.access(FRONT_SPEED, os.X_OK):
         sys.exit("bench: front_speed is not built: run rt run -- names 1000 in crates/front_speed once")
-    print("%-8s %8s %10s %10s %10s %12s" % ("text", "status", "bytes", "tokens", "seconds", "peak MiB"))
-    for kind in ("names", "marks", "uses", "nested", "undefs"):
+    print("%-9s %8s %10s %10s %10s %12s" % ("text", "status", "bytes", "tokens", "seconds", "peak MiB"))
+    for kind in ("names", "marks", "uses", "nested", "undefs", "program", "functions"):
         with tempfile.TemporaryFile() as output:
             status, seconds, peak = run_once([FRONT_SPEED, kind, str(LIMIT)], None, output)
             output.seek(0)
             said = output.read().decode().split() or ["", ""]
-        print("%-8s %8d %10s %10s %10.3f %12.1f" % (kind, status, said[0], said[1], seconds, peak))
+        print("%-9s %8d %10s %10s %10.3f %12.1f" % (kind, status, said[0], said[1], seconds, peak))
     return 0
 
 

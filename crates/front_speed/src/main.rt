@@ -1,12 +1,19 @@
 //! The program `front_speed`: takes the tokens of a text that it makes, for measurements of speed (`bench/`). Its words are
 //! what the text is made of, `names`, `marks`, `uses` (of macros that use others), `nested` (macros that stand deep in one
-//! another) or `undefs` (macros that are all undefined again), and how many bytes it has at most, up to 1,048,576. It prints the bytes and the tokens.
+//! another), `undefs` (macros that are all undefined again), `program` (statements of one function, which it also parses) or
+//! `functions` (a thousand functions, of which it also makes the program), and how many bytes it has at most, up to 1,048,576. It
+//! prints the bytes and the tokens.
 #![tactic(auto)]
 
+ghost use Rattle.std.specs.Prelude.{◌≤◌, length};
+
 use ocl_lex::{LexFault, lex};
+use ocl_parser::parse;
+use ocl_tokens::Tokens;
 use std::alloc::{AllocError, Global};
 use std::env;
 use std::process::ExitCode;
+use vx_cc::front;
 
 /// What a text is made of.
 #[derive(Clone, Copy, PartialEq, Eq)]
@@ -16,6 +23,8 @@ enum Kind {
     Uses,
     Nested,
     Undefs,
+    Program,
+    Functions,
 }
 
 fn kind_of(word: &str) -> Option<Kind> {
@@ -25,6 +34,8 @@ fn kind_of(word: &str) -> Option<Kind> {
         "uses" => Some(Kind::Uses),
         "nested" => Some(Kind::Nested),
         "undefs" => Some(Kind::Undefs),
+        "program" => Some(Kind::Program),
+        "functions" => Some(Kind::Functions),
         _ => None,
     }
 }
@@ -80,6 +91,41 @@ fn defined_and_undefined(alloc: Global, bytes: usize) -> Result<Vec<u8>, AllocEr
     Ok(text)
 }
 
+/// A function of which one statement stands again and again.
+fn program(alloc: Global, bytes: usize) -> Result<Vec<u8>, AllocError> {
+    let statement = b"  if (a < b) { c[a] = (b + 1) * d(a, 2); }\n";
+    let mut text = repeated(alloc, b"void f() {\n", statement, bytes.saturating_sub(1))?;
+    text.extend_from_slice(b"}")?;
+    Ok(text)
+}
+
+/// A function of a number that calls one of a smaller number, where there is one.
+fn function(alloc: Global, number: usize, bytes: usize) -> Result<Vec<u8>, AllocError> {
+    let head = if number == 0 {
+        format!(in alloc; "int f0(int a) {{\n  int b = a;\n")?
+    } else {
+        format!(in alloc; "int f{number}(int a) {{\n  int b = f{}(a);\n", number / 2)?
+    };
+    let mut text = repeated(
+        alloc,
+        head.as_bytes(),
+        b"  b = b * 3 + a;\n",
+        bytes.saturating_sub(14),
+    )?;
+    text.extend_from_slice(b"  return b;\n}\n")?;
+    Ok(text)
+}
+
+/// A thousand functions.
+fn functions(alloc: Global, bytes: usize) -> Result<Vec<u8>, AllocError> {
+    let mut text = Vec::new(alloc);
+    for number in 0..1000 {
+        let function = function(alloc, number, bytes / 1000)?;
+        text.extend_from_slice(function.as_slice())?;
+    }
+    Ok(text)
+}
+
 fn make_text(alloc: Global, kind: Kind, bytes: usize) -> Result<Vec<u8>, AllocError> {
     match kind {
         Kind::Names => repeated(alloc, b"", b"ab cd_1\n", bytes),
@@ -87,16 +133,33 @@ fn make_text(alloc: Global, kind: Kind, bytes: usize) -> Result<Vec<u8>, AllocEr
         Kind::Uses => repeated(alloc, b"#define A B\n#define B c\n", b"A  ", bytes),
         Kind::Nested => chained(alloc, bytes),
         Kind::Undefs => defined_and_undefined(alloc, bytes),
+        Kind::Program => program(alloc, bytes),
+        Kind::Functions => functions(alloc, bytes),
     }
 }
 
-/// How many tokens a text has.
-fn count_tokens(alloc: Global, text: &[u8]) -> Result<usize, LexFault> {
+/// Whether more than the lexer takes a text of this kind.
+fn is_taken(alloc: Global, kind: Kind, text: &[u8], tokens: &Tokens) -> bool
+    requires { length text.now ≤ 1048576 }
+{
+    match kind {
+        Kind::Program => parse(alloc, tokens).is_ok(),
+        Kind::Functions => front(alloc, text).is_ok(),
+        _ => true,
+    }
+}
+
+/// How many tokens a text has, or 0 where it is refused behind the lexer.
+fn count_tokens(alloc: Global, kind: Kind, text: &[u8]) -> Result<usize, LexFault> {
     if text.len() > 1_048_576 {
         return Ok(0);
     }
     let tokens = lex(alloc, text)?;
-    Ok(tokens.len())
+    if is_taken(alloc, kind, text, &tokens) {
+        Ok(tokens.len())
+    } else {
+        Ok(0)
+    }
 }
 
 fn main(rt: HostRuntime) -> ExitCode {
@@ -113,7 +176,7 @@ fn main(rt: HostRuntime) -> ExitCode {
     let Ok(text) = make_text(rt.alloc(), kind, bytes) else {
         return ExitCode::from(9);
     };
-    let Ok(tokens) = count_tokens(rt.alloc(), text.as_slice()) else {
+    let Ok(tokens) = count_tokens(rt.alloc(), kind, text.as_slice()) else {
         return ExitCode::from(3);
     };
     match println!(rt; "{} {tokens}", text.len()) {
