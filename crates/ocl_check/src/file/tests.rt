@@ -551,3 +551,113 @@ fn common_types(rt: HostRuntime) -> Result<(), Fail> {
     }
     Ok(())
 }
+
+/// Whether `NAME(ARG, ..)` gives a uint, where it is typed: the type of a comparison with an int says so. The arguments
+/// are numbers, each a uint or an int.
+fn gives_uint(alloc: Global, text: &[u8], unsigned: &[bool]) -> Result<Option<bool>, AllocError> {
+    let mut args = Vec::new(alloc);
+    for uint in unsigned {
+        args.push(Expr::Number {
+            value: 1,
+            unsigned: *uint,
+            pos: at(50),
+        })?;
+    }
+    let test = nodes::binary(
+        alloc,
+        BinOp::Lt,
+        call(alloc, text, 44, args)?,
+        number(1, 60),
+        at(58),
+    )?;
+    let stmt = value(alloc, test)?;
+    let kernel = kernel(alloc, vec![in alloc; stmt]?)?;
+    match program_of(alloc, vec![in alloc; kernel]?) {
+        Ok(program) => match first_value(&program) {
+            Some(TypedExpr::Binary { unsigned, .. }) => Ok(Some(*unsigned)),
+            _ => Ok(None),
+        },
+        Err(_fault) => Ok(None),
+    }
+}
+
+#[test]
+fn places_of_items(rt: HostRuntime) -> Result<(), Fail> {
+    let alloc = rt.alloc();
+    let found = gives_uint(alloc, b"get_work_dim", &[])?;
+    assert!(rt; found == Some(true));
+    let found = gives_uint(alloc, b"get_global_id", &[false])?;
+    assert!(rt; found == Some(true));
+    let found = gives_uint(alloc, b"get_local_id", &[true])?;
+    assert!(rt; found == Some(true));
+    let found = gives_uint(alloc, b"get_group_id", &[false])?;
+    assert!(rt; found == Some(true));
+    let found = gives_uint(alloc, b"get_global_size", &[false])?;
+    assert!(rt; found == Some(true));
+    let found = gives_uint(alloc, b"get_local_size", &[false])?;
+    assert!(rt; found == Some(true));
+    let found = gives_uint(alloc, b"get_num_groups", &[false])?;
+    assert!(rt; found == Some(true));
+    let found = gives_uint(alloc, b"get_global_offset", &[false])?;
+    assert!(rt; found == Some(true));
+    Ok(())
+}
+
+#[test]
+fn builtin_types(rt: HostRuntime) -> Result<(), Fail> {
+    let alloc = rt.alloc();
+    let found = gives_uint(alloc, b"min", &[false, false])?;
+    assert!(rt; found == Some(false));
+    let found = gives_uint(alloc, b"max", &[true, false])?;
+    assert!(rt; found == Some(true));
+    let found = gives_uint(alloc, b"clamp", &[false, false, false])?;
+    assert!(rt; found == Some(false));
+    let found = gives_uint(alloc, b"clamp", &[false, false, true])?;
+    assert!(rt; found == Some(true));
+    let found = gives_uint(alloc, b"abs", &[false])?;
+    assert!(rt; found == Some(true));
+    let found = gives_uint(alloc, b"mul_hi", &[false, false])?;
+    assert!(rt; found == Some(false));
+    let found = gives_uint(alloc, b"mul_hi", &[false, true])?;
+    assert!(rt; found == Some(true));
+    Ok(())
+}
+
+/// Scalar parameters with different names.
+fn parameters(alloc: Global, count: u32) -> Result<Vec<Param>, AllocError> {
+    let mut params = Vec::new(alloc);
+    for k in 0..count {
+        params.push(Param {
+            name: numbered(alloc, k, 20)?,
+            kind: ParamKind::Scalar(Elem::Int),
+            constant: false,
+        })?;
+    }
+    Ok(params)
+}
+
+#[test]
+fn helpers(rt: HostRuntime) -> Result<(), Fail> {
+    let alloc = rt.alloc();
+    let function = helper(alloc, b"f", 15, parameters(alloc, 16)?, Vec::new(alloc))?;
+    let found = fault_of(alloc, vec![in alloc; function]?);
+    assert!(rt; found.is_none());
+    let function = helper(alloc, b"f", 15, parameters(alloc, 17)?, Vec::new(alloc))?;
+    let found = fault_of(alloc, vec![in alloc; function]?);
+    assert!(rt; found == too_many(Counted::Params, 17));
+    // a helper that gives an int returns none
+    let leave = Stmt::Return {
+        value: None,
+        pos: at(30),
+    };
+    let function = helper(alloc, b"f", 5, Vec::new(alloc), vec![in alloc; leave]?)?;
+    let found = fault_of(alloc, vec![in alloc; function]?);
+    assert!(rt; found == mismatch(30));
+    // a helper that gives nothing is called for a value
+    let mut functions = chain(alloc, 1, 0)?;
+    let stmt = value(alloc, call(alloc, &[0, 0], 44, Vec::new(alloc))?)?;
+    functions.push(kernel(alloc, vec![in alloc; stmt]?)?)?;
+    let found = fault_of(alloc, functions);
+    assert!(rt; found == mismatch(44));
+    Ok(())
+}
