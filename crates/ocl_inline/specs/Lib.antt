@@ -1,0 +1,5 @@
+pub mod Trees
+pub mod FlatTasks
+pub mod Expansion
+pub mod Mapping
+pub mod Laws
