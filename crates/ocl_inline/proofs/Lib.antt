@@ -1,2 +1,4 @@
 pub mod Mapped
 pub mod Lockstep
+pub mod Runs
+pub mod Ranks
