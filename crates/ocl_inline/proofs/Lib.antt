@@ -2,3 +2,4 @@ pub mod Mapped
 pub mod Lockstep
 pub mod Runs
 pub mod Ranks
+pub mod Rows

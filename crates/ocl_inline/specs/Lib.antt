@@ -3,3 +3,4 @@ pub mod FlatTasks
 pub mod Expansion
 pub mod Mapping
 pub mod Laws
+pub mod Shapes

@@ -70,6 +70,15 @@ abbrev pub value_of : FlatValue → Option FlatExpr
 value_of NoFlat = None
 value_of (SomeFlat e) = Some e
 
+abbrev pub written : Option FlatExpr → FlatValue
+written None = NoFlat
+written (Some e) = SomeFlat e
+
+-- an `if`, with or without `else`
+abbrev pub if_flat : FlatExpr → FlatStmt → Option FlatStmt → FlatStmt
+if_flat test one None = IfFlat test one
+if_flat test one (Some other) = IfElseFlat test one other
+
 -- A kernel: its parameters, its `__local` arrays, how many variables and barriers it has, and the items of its block.
 pub record FlatKernel : Type 0 where
   pub params : List Param
