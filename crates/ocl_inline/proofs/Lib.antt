@@ -3,3 +3,4 @@ pub mod Lockstep
 pub mod Runs
 pub mod Ranks
 pub mod Rows
+pub mod Onto

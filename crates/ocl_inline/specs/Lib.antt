@@ -4,3 +4,5 @@ pub mod Expansion
 pub mod Mapping
 pub mod Laws
 pub mod Shapes
+pub mod Expanding
+pub mod Sizes

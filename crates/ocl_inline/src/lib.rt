@@ -5,6 +5,7 @@
 //! `laws` has what follows: both make the same steps.
 #![tactic(auto)]
 
+pub mod expansion;
 pub mod laws;
 pub mod nodes;
 pub mod trees;
