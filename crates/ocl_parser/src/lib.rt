@@ -10,7 +10,8 @@
 //! - `expr_steps`, with `operators` and `scalars`: expressions.
 //! - `declares`, `assigns`, `heads`, `ends`, `items` and `stmt_steps`: statements.
 //! - `params` and `unit_steps`: functions and files.
-//! - `limits`: whether what has been read can go on within the limits.
+//! - `limits`: whether what has been read can go on within the limits (`specs/Limits.antt`): whether the shortest way to
+//!   its end is, which `specs/Rooms.antt` tells of its innermost parts.
 //! - `trees` and `moves`: what is made, and what a step answers.
 //!
 //! `proofs/UnitComplete.antt` shows that each text of a file is read, and that two files of one text are the same; `proofs/UnitSound.antt` and

@@ -1,5 +1,5 @@
 -- The typing of the functions of a file: their names, then each function, then that none reaches a call of itself, then the limits.
-use Rattle.std.specs.Prelude.{ℕ, zero, suc, ◌+◌, ◌==◌, nat_lt, Bool, true, false, ◌&&◌, ◌||◌, is_some, if◌then◌else◌, List, [], ◌∷◌, ◌++◌, length, map, slice_get, Option, None, Some, Result, Ok, Err}
+use Rattle.std.specs.Prelude.{◌≡◌, ℕ, zero, suc, ◌+◌, ◌==◌, nat_lt, Bool, true, false, ◌&&◌, ◌||◌, is_some, if◌then◌else◌, List, [], ◌∷◌, ◌++◌, length, map, slice_get, Option, None, Some, Result, Ok, Err}
 use Rattle.std.specs.Str.{bytes_eq}
 use Rattle.vx_base.specs.declared.types.ParamKind.{ParamKind}
 use Rattle.vx_base.specs.declared.types.ParamKind.TheVariants.{Scalar, Pointer}
@@ -159,6 +159,11 @@ abbrev pub program_of : List FunctionTree → Result (List FunctionNode) TypeFau
 program_of functions = bodies_of functions >>= λ program.
     within_limits program >>= λ _.
     Ok (map (placed program) program)
+
+-- some functions are the program of a file
+pub record IsProgram (program : List FunctionNode) : Type 0 where
+  pub functions : List FunctionTree
+  pub typed : program_of functions ≡ Ok program
 
 -- the number of the kernel with a name, counted from n
 abbrev pub kernel_from : ℕ → List ℕ → List FunctionNode → Option ℕ

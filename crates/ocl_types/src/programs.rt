@@ -4,7 +4,7 @@ ghost use Rattle.std.specs.Str.{bytes_eq};
 ghost use Rattle.ocl_program.specs.Measures.{measures_of};
 ghost use Rattle.ocl_program.specs.Shapes.{function_node};
 ghost use Rattle.ocl_measures.specs.Totals.{AreTotals};
-ghost use Rattle.ocl_types.specs.Functions.{kernel_from};
+ghost use Rattle.ocl_types.specs.Functions.{IsProgram, kernel_from};
 
 use ocl_ast::ParamList;
 use ocl_measures::rounds::totals_at;
@@ -20,6 +20,7 @@ pub struct Program {
     pub totals: Vec<Totals>,
     ghost few: { length functions.items < 2 ^ 32 },
     ghost measured: { AreTotals (map function_node functions.items) (length functions.items) totals.items },
+    ghost typed: { IsProgram (map function_node functions.items) },
 }
 
 /// Whether a function is a kernel with a name.

@@ -1,145 +1,36 @@
 //! Texts that the parser reads and refuses. The parser has no tests of its own: it is large, and a crate with tests is proved twice.
 
 use ocl_ast::{BinOp, Expr, Stmt, Unit};
+use ocl_lex::lex;
 use ocl_parser::{ParseFault, parse};
-use ocl_tokens::{LeftOut, Mark, Token, TokenKind, Tokens, Word};
+use ocl_tokens::{Token, Tokens};
 use std::alloc::{AllocError, Global};
 use std::test::Fail;
-use vx_base::{Pos, Text};
+use vx_base::Pos;
 
-const MARKS: [(&str, Mark); 43] = [
-    ("(", Mark::OpenParen),
-    (")", Mark::CloseParen),
-    ("{", Mark::OpenBrace),
-    ("}", Mark::CloseBrace),
-    ("[", Mark::OpenBracket),
-    ("]", Mark::CloseBracket),
-    (";", Mark::Semicolon),
-    (",", Mark::Comma),
-    ("?", Mark::Question),
-    (":", Mark::Colon),
-    ("~", Mark::Tilde),
-    ("!", Mark::Bang),
-    ("+", Mark::Plus),
-    ("-", Mark::Minus),
-    ("*", Mark::Star),
-    ("/", Mark::Slash),
-    ("%", Mark::Percent),
-    ("<<", Mark::ShiftLeft),
-    (">>", Mark::ShiftRight),
-    ("<", Mark::Less),
-    (">", Mark::Greater),
-    ("<=", Mark::LessEqual),
-    (">=", Mark::GreaterEqual),
-    ("==", Mark::EqualEqual),
-    ("!=", Mark::BangEqual),
-    ("&", Mark::Ampersand),
-    ("^", Mark::Caret),
-    ("|", Mark::Bar),
-    ("&&", Mark::AndAnd),
-    ("||", Mark::BarBar),
-    ("=", Mark::Equal),
-    ("+=", Mark::PlusEqual),
-    ("-=", Mark::MinusEqual),
-    ("*=", Mark::StarEqual),
-    ("/=", Mark::SlashEqual),
-    ("%=", Mark::PercentEqual),
-    ("<<=", Mark::ShiftLeftEqual),
-    (">>=", Mark::ShiftRightEqual),
-    ("&=", Mark::AmpersandEqual),
-    ("^=", Mark::CaretEqual),
-    ("|=", Mark::BarEqual),
-    ("++", Mark::PlusPlus),
-    ("--", Mark::MinusMinus),
-];
-
-const WORDS: [(&str, Word); 36] = [
-    ("__kernel", Word::UnderscoreKernel),
-    ("kernel", Word::Kernel),
-    ("__global", Word::UnderscoreGlobal),
-    ("global", Word::Global),
-    ("__constant", Word::UnderscoreConstant),
-    ("constant", Word::Constant),
-    ("__local", Word::UnderscoreLocal),
-    ("local", Word::Local),
-    ("const", Word::Const),
-    ("volatile", Word::Volatile),
-    ("restrict", Word::Restrict),
-    ("inline", Word::Inline),
-    ("static", Word::Static),
-    ("void", Word::Void),
-    ("char", Word::Char),
-    ("uchar", Word::Uchar),
-    ("short", Word::Short),
-    ("ushort", Word::Ushort),
-    ("int", Word::Int),
-    ("uint", Word::Uint),
-    ("size_t", Word::SizeT),
-    ("signed", Word::Signed),
-    ("unsigned", Word::Unsigned),
-    ("if", Word::If),
-    ("else", Word::Else),
-    ("while", Word::While),
-    ("do", Word::Do),
-    ("for", Word::For),
-    ("break", Word::Break),
-    ("continue", Word::Continue),
-    ("return", Word::Return),
-    ("barrier", Word::Barrier),
-    ("float", Word::LeftOut(LeftOut::Float)),
-    ("switch", Word::LeftOut(LeftOut::Switch)),
-    ("goto", Word::LeftOut(LeftOut::Goto)),
-    ("long", Word::LeftOut(LeftOut::Long)),
-];
-
-/// The kind of a word's token.
-fn kind_of(alloc: Global, word: &str) -> Result<TokenKind, AllocError> {
-    for (text, mark) in MARKS {
-        if text == word {
-            return Ok(TokenKind::Mark(mark));
-        }
+/// The tokens of a text, where it has no fault.
+fn lexed(alloc: Global, bytes: &[u8]) -> Option<Tokens> {
+    if bytes.len() > 1_048_576 {
+        return None;
     }
-    for (text, reserved) in WORDS {
-        if text == word {
-            return Ok(TokenKind::Word(reserved));
-        }
-    }
-    if let Ok(value) = word.parse::<u32>() {
-        let unsigned = false;
-        return Ok(TokenKind::Number { value, unsigned });
-    }
-    let items = word.as_bytes().to_vec(alloc)?;
-    Ok(TokenKind::Name(Text { items }))
+    lex(alloc, bytes).ok()
 }
 
-/// The tokens of words with blanks between. The word with number n from 1 stands in column n.
-fn tokens_of(alloc: Global, text: &str) -> Result<Tokens, AllocError> {
+/// The tokens of a text, each with its number from 1 as its column.
+fn tokens_of(alloc: Global, text: &str) -> Result<Tokens, Fail> {
+    let tokens = lexed(alloc, text.as_bytes()).ok_or("no tokens")?;
     let mut items = Vec::new(alloc);
     let mut col = 0_u32;
-    for word in text.split(' ') {
-        if word.is_empty() {
-            continue;
-        }
+    for token in tokens.items {
         col = col.saturating_add(1);
-        items.push(token(kind_of(alloc, word)?, col))?;
+        let pos = Pos { line: 1, col };
+        items.push(Token { pos, ..token })?;
     }
-    items.push(token(TokenKind::End, col.saturating_add(1)))?;
     Ok(Tokens { items })
 }
 
-fn token(kind: TokenKind, col: u32) -> Token {
-    let pos = Pos { line: 1, col };
-    Token {
-        kind,
-        start: 0,
-        end: 0,
-        pos,
-        made: false,
-    }
-}
-
-/// What the words are refused with.
-fn fault_of(alloc: Global, text: &str) -> Result<Option<ParseFault>, AllocError> {
+/// What a text is refused with; its places are numbers of tokens.
+fn fault_of(alloc: Global, text: &str) -> Result<Option<ParseFault>, Fail> {
     let tokens = tokens_of(alloc, text)?;
     match parse(alloc, &tokens) {
         Ok(_unit) => Ok(None),
@@ -265,7 +156,7 @@ fn nested_fault(
     (before, inner, behind): (&str, &str, &str),
     end: &str,
     count: usize,
-) -> Result<Option<ParseFault>, AllocError> {
+) -> Result<Option<ParseFault>, Fail> {
     let before = repeated(alloc, before, count)?;
     let behind = repeated(alloc, behind, count)?;
     let text = format!(in alloc; "{start}{before}{inner}{behind}{end}")?;

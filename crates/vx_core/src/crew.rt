@@ -37,7 +37,7 @@ impl Crew {
     ghost use Rattle.vx_core.specs.Cores.{crew_of};
 
     /// Warps of which none was started.
-    pub fn new(alloc: Global) -> Result<Crew, Memory> {
+    pub(crate) fn new(alloc: Global) -> Result<Crew, Memory> {
         let mut warps = Vec::with_capacity(alloc, WARPS as usize)?;
         for number in 0..WARPS {
             warps.push_reserved(Warp::new());

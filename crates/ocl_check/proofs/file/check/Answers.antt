@@ -45,7 +45,17 @@ invariant_of-result c =
     c.in_ok-functions-2.ensures.ok ∙ ap (λ (l : List Totals). map (placed_by l) (map function_node functions)) c.as_slice-3.ensures.value in
     let same : length placed ≡ length functions = placed_counted functions placed totals put in
     let few : length placed < 2 ^ 32 = omega (arith, many, trees, given, same, c.requires) in
-    record { few = few; measured = placed_measured functions placed totals put are }
+    let fs = trees_of c.as_slice.result.now in
+    let typed : bodies_of fs ≡ Ok (map function_node functions) = c.in_ok-bodies.ensures.0 ∙ ap Ok (sym ok) in
+    let within : within_limits (map function_node functions) ≡ Ok tt = ap (λ (l : List TypedFunction). within_limits (map function_node l)) (sym c.as_slice-2.ensures.value) ∙ c.in_ok-totals.ensures.0 in
+    record {
+      few = few;
+      measured = placed_measured functions placed totals put are;
+      typed = record {
+        functions = fs;
+        typed = file_typed fs (map function_node functions) (map function_node placed) typed within (put ∙ all_placed_same (map function_node functions) totals are);
+      };
+    }
 
 pub returns : goal.returns
 returns c =
