@@ -1,0 +1,6 @@
+pub mod Passing
+pub mod Pieces
+pub mod ExprMoves
+pub mod StmtMoves
+pub mod Bodies
+pub mod NoRecursion
