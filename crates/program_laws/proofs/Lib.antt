@@ -4,3 +4,5 @@ pub mod ExprMoves
 pub mod StmtMoves
 pub mod Bodies
 pub mod NoRecursion
+pub mod Counting
+pub mod Settling
