@@ -1,5 +1,5 @@
 -- A function that is small with its calls expanded is formed: the cuts in its typing did nothing.
-use Rattle.std.proofs.Common.{◌≡◌, refl, sym, ap, ◌∙◌, subst, ℕ, zero, suc, ◌+◌, ◌-◌, ◌^◌, ◌<◌, ◌≤◌, min, List, [], ◌∷◌, ◌++◌, map, sum, length, slice_get, Option, None, Some, option_map, arith}
+use Rattle.std.proofs.Common.{◌≡◌, refl, sym, ap, ◌∙◌, subst, ℕ, zero, suc, ◌+◌, ◌<◌, ◌≤◌, List, [], ◌∷◌, map, length, slice_get, Some, option_map, arith}
 use Rattle.std.specs.Prelude.{count_by}
 use Rattle.std.specs.List.{range_with_len}
 use Rattle.std.proofs.lemmas.List.{length-map}
@@ -7,13 +7,13 @@ use Rattle.std.proofs.lemmas.Option.{slice_get-map}
 use Rattle.ocl_ast.specs.Trees.{FunctionTree}
 use Rattle.ocl_program.specs.declared.functions.CallSite.{CallSite}
 use Rattle.ocl_program.specs.Measures.{cut, at_call, callees, measured, own_nodes, own_sites, own_variables}
-use Rattle.ocl_program.specs.Nodes.{FunctionNode, StmtNode, StmtNodes, stmt_nodes}
+use Rattle.ocl_program.specs.Nodes.{FunctionNode, StmtNode, stmt_nodes}
 use Rattle.ocl_sem.specs.Source.{is_scalar}
 use Rattle.ocl_types.specs.Stmts.{Standing}
 use Rattle.ocl_types.specs.Functions.{IsProgram, at_start, bare_call, made_of, placed, sites_from}
 use Rattle.program_laws.specs.Formed.{AreBelow, IsFormed, IsSmall, counted_up, stmts_arrays, stmts_calls, stmts_sites, stmts_variables}
-use Rattle.program_laws.proofs.Pieces.{InOrder, Orders, Counts, Moves, in_stmts, most, moves_both}
-use Rattle.program_laws.proofs.Bodies.{Typing, Made, program_made, Based, based, Behind, behind_of}
+use Rattle.program_laws.proofs.Pieces.{InOrder, Counts, Moves, in_stmts, most, moves_both}
+use Rattle.program_laws.proofs.Bodies.{Typing, Made, program_made, based, behind_of}
 use Rattle.program_laws.proofs.NoRecursion.{placed_callees}
 use Rattle.program_laws.proofs.Settling.{measures_settle}
 use Rattle.program_laws.proofs.Keeping.{keeps_sites, keeps_variables, measured_kept}
@@ -93,8 +93,8 @@ made_formed program made node typing few =
           ∙ ap (sites_from (measured own_variables program) (measured own_sites program) typing.made.1.variables typing.made.1.sites) (sym (placed_callees made.base (made_of typing.tree typing.made)));
       callees = λ i site there.
           let callee : slice_get typing.made.1.calls i ≡ Some site.callee =
-              ap (λ (ks : List ℕ). slice_get ks i) (sym (made_callees made.base typing.tree typing.made))
-              ∙ slice_get-map (λ (c : CallSite). c.callee) (placed made.base (made_of typing.tree typing.made)).calls i ∙ ap (option_map (λ (c : CallSite). c.callee)) there in
+          ap (λ (ks : List ℕ). slice_get ks i) (sym (made_callees made.base typing.tree typing.made))
+          ∙ slice_get-map (λ (c : CallSite). c.callee) (placed made.base (made_of typing.tree typing.made)).calls i ∙ ap (option_map (λ (c : CallSite). c.callee)) there in
           subst (λ (n : ℕ). site.callee < n) long (below_at (length made.functions) typing.made.1.calls i site.callee (moves.callees tt) callee);
     }
 

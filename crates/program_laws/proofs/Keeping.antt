@@ -1,10 +1,9 @@
 -- What a function has with its calls expanded does not hang on where its calls begin.
-use Rattle.std.proofs.Common.{◌≡◌, refl, sym, ap, ◌∙◌, subst, ℕ, zero, suc, ◌+◌, List, [], ◌∷◌, map, sum, length, slice_get, Option, None, Some, option_map}
+use Rattle.std.proofs.Common.{◌≡◌, refl, sym, ap, ◌∙◌, ℕ, zero, suc, ◌+◌, List, map, sum, length, slice_get, Option, None, Some, option_map}
 use Rattle.std.proofs.Math.Path.{fun_ext}
 use Rattle.std.proofs.lemmas.List.{length-map}
 use Rattle.std.proofs.lemmas.Option.{slice_get-map}
-use Rattle.ocl_program.specs.declared.functions.CallSite.{CallSite}
-use Rattle.ocl_program.specs.Measures.{where_some, callees, expanded, measured, of_function, own_variables, own_sites, own_nodes, stmts_size}
+use Rattle.ocl_program.specs.Measures.{where_some, expanded, measured, of_function, own_variables, own_sites, own_nodes, stmts_size}
 use Rattle.ocl_program.specs.Nodes.{FunctionNode}
 use Rattle.ocl_types.specs.Functions.{placed}
 use Rattle.program_laws.proofs.NoRecursion.{placed_callees}

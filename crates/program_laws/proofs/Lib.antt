@@ -10,3 +10,4 @@ pub mod Weights
 pub mod Keeping
 pub mod Forming
 pub mod Limits
+pub mod WorkedForms

@@ -1,16 +1,15 @@
 -- Which functions are small with their calls expanded.
-use Rattle.std.proofs.Common.{◌≡◌, refl, sym, ap, ◌∙◌, subst, ℕ, zero, suc, ◌+◌, ◌<◌, ◌≤◌, nat_lt, Bool, true, false, ◌||◌, if◌then◌else◌, List, [], ◌∷◌, map, sum, length, slice_get, Option, None, Some, option_map, arith}
-use Rattle.std.specs.List.{range_with_len}
+use Rattle.std.proofs.Common.{◌≡◌, refl, ap, ◌∙◌, subst, ℕ, ◌+◌, ◌<◌, ◌≤◌, nat_lt, Bool, true, false, if◌then◌else◌, List, map, sum, length, slice_get, Option, None, Some, option_map, arith}
 use Rattle.std.proofs.lemmas.Bool.{ltb-false}
 use Rattle.std.proofs.lemmas.Option.{slice_get_within, slice_get-map}
 use Rattle.ocl_program.specs.declared.functions.CallSite.{CallSite}
-use Rattle.ocl_program.specs.Measures.{where_some, at_call, callees, measured, own_calls, own_control, own_nodes, own_variables, stmts_size}
+use Rattle.ocl_program.specs.Measures.{where_some, at_call, callees, measured, own_calls, own_control, own_nodes, own_variables}
 use Rattle.ocl_program.specs.Nodes.{FunctionNode}
 use Rattle.ocl_types.specs.declared.faults.TypeFault.{TypeFault}
-use Rattle.ocl_types.specs.Functions.{IsProgram, kernel_fault, most_nodes, most_variables, most_arrays, placed, size_fault, sized_fault}
-use Rattle.program_laws.specs.Formed.{IsFormed, IsSmall, counted_up, stmts_arrays, stmts_calls, stmts_sites}
-use Rattle.program_laws.proofs.NoRecursion.{Limits, each_passes, limits_of}
-use Rattle.program_laws.proofs.Bodies.{Made, program_made, Based, based}
+use Rattle.ocl_types.specs.Functions.{IsProgram, kernel_fault, most_nodes, most_variables, most_arrays, size_fault, sized_fault}
+use Rattle.program_laws.specs.Formed.{IsSmall, counted_up, stmts_calls}
+use Rattle.program_laws.proofs.NoRecursion.{each_passes, limits_of}
+use Rattle.program_laws.proofs.Bodies.{program_made, based}
 use Rattle.program_laws.proofs.Settling.{measures_settle}
 use Rattle.program_laws.proofs.Keeping.{keeps_nodes, keeps_variables, measured_kept}
 use Rattle.program_laws.proofs.Weights.{weight, body_load, part_of_sum, part_of_weight}
@@ -46,9 +45,10 @@ kernels_small program p k f at kernel =
     let passed : kernel_fault made.base (0 + k) b.node ≡ None = each_passes (kernel_fault made.base) 0 made.base k b.node (limits_of made.base made.limits).kernels b.at in
     let here : kernel_fault made.base k b.node ≡ None = subst (λ (x : ℕ). kernel_fault made.base x b.node ≡ None) number passed in
     let is : b.node.kernel ≡ true = ap (λ (x : FunctionNode). x.kernel) b.is ∙ kernel in
-    let small = kernel_small made.base k b.node b.node.kernel here is in
-    (subst (λ (measure : ℕ → ℕ). measure k ≤ 256) (measured_kept own_variables keeps_variables program made) small.0,
-     subst (λ (measure : ℕ → ℕ). measure k ≤ 16384) (measured_kept own_nodes keeps_nodes program made) small.1)
+    let small = kernel_small made.base k b.node b.node.kernel here is in (
+      subst (λ (measure : ℕ → ℕ). measure k ≤ 256) (measured_kept own_variables keeps_variables program made) small.0,
+      subst (λ (measure : ℕ → ℕ). measure k ≤ 16384) (measured_kept own_nodes keeps_nodes program made) small.1,
+    )
 
 -- ---- callees
 
@@ -66,8 +66,8 @@ callees_small program p k i f site small at there =
     let part : measured own_variables program site.callee ≤ sum (map (measured own_variables program) (callees f)) = part_of_sum (measured own_variables program) (callees f) i site.callee callee in
     let load = body_load (at_call f (measured own_nodes program)) f.body in
     let met : at_call f (measured own_nodes program) i ≤ weight (at_call f (measured own_nodes program)) (counted_up 0 (length f.calls)) =
-        part_of_weight (at_call f (measured own_nodes program)) (length f.calls) 0 i (omega arith) (omega arith) in
+    part_of_weight (at_call f (measured own_nodes program)) (length f.calls) 0 i (omega arith) (omega arith) in
     let written : weight (at_call f (measured own_nodes program)) (stmts_calls f.body) ≡ weight (at_call f (measured own_nodes program)) (counted_up 0 (length f.calls)) =
-        ap (weight (at_call f (measured own_nodes program))) formed.calls in
+    ap (weight (at_call f (measured own_nodes program))) formed.calls in
     let is : at_call f (measured own_nodes program) i ≡ measured own_nodes program site.callee = ap (where_some (measured own_nodes program)) callee in
     (omega arith, omega arith)
