@@ -40,9 +40,6 @@ pub record Limits (program : List FunctionNode) : Type 0 where
   pub recursion : each_from (recursion_of program) 0 program ≡ Ok tt
   pub kernels : each_from (kernel_fault program) 0 program ≡ Ok tt
 
-passed_unit : (r : Result (Unit {0}) TypeFault) (x : Unit {0}) → r ≡ Ok x → r ≡ Ok tt
-passed_unit r x h = h
-
 pub limits_of : (program : List FunctionNode) → within_limits program ≡ Ok tt → Limits program
 limits_of program h =
     let recursion = passing (each_from (recursion_of program) 0 program) h in

@@ -151,23 +151,21 @@ count_plain fs ss calls (ParenTree part pos) t is h =
     let p = passing (typed fs ss calls part) h in answered (λ (x : Typed). in_expr x.expr ≡ none) p.rest (count_plain fs ss calls part p.value is p.first)
 
 -- a count that is accepted
-record IsSized (outermost : Bool) (c : ExprNode) : Type 0 where
+record IsSized (c : ExprNode) : Type 0 where
   pub plain : in_expr c ≡ none
   pub least : 1 ≤ count_value c
   pub greatest : count_value c ≤ 262144
-  pub outer : outermost ≡ true
 
-count_sized : (place : Place) (pos : Pos) (count : ExprTree) (c : ExprNode) → typed_count place pos count ≡ Ok c → IsSized place.outermost c
+count_sized : (place : Place) (pos : Pos) (count : ExprTree) (c : ExprNode) → typed_count place pos count ≡ Ok c → IsSized c
 count_sized place pos count c h =
     let t = passing (typed place.functions [] [] count) (tested (is_count count) _ _ h) in
     let fits : place.outermost && (nat_le 1 (count_value t.value.expr) && nat_le (count_value t.value.expr) most_elements) ≡ true =
     test_held (place.outermost && (nat_le 1 (count_value t.value.expr) && nat_le (count_value t.value.expr) most_elements)) _ _ t.rest in
     let range = right_true place.outermost (nat_le 1 (count_value t.value.expr) && nat_le (count_value t.value.expr) most_elements) fits in
-    answered (IsSized place.outermost) (tested (place.outermost && (nat_le 1 (count_value t.value.expr) && nat_le (count_value t.value.expr) most_elements)) _ _ t.rest) (record {
+    answered IsSized (tested (place.outermost && (nat_le 1 (count_value t.value.expr) && nat_le (count_value t.value.expr) most_elements)) _ _ t.rest) (record {
       plain = count_plain place.functions [] [] count t.value (test_held (is_count count) _ _ h) t.first;
       least = leb-true 1 (count_value t.value.expr) (left_true (nat_le 1 (count_value t.value.expr)) (nat_le (count_value t.value.expr) most_elements) range);
       greatest = leb-true (count_value t.value.expr) 262144 (right_true (nat_le 1 (count_value t.value.expr)) (nat_le (count_value t.value.expr) most_elements) range);
-      outer = left_true place.outermost (nat_le 1 (count_value t.value.expr) && nat_le (count_value t.value.expr) most_elements) fits;
     })
 
 -- ---- parts of statements

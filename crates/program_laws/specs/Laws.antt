@@ -35,7 +35,7 @@ pub record MeasuresSettle (program : List FunctionNode) : Type 0 where
 abbrev pub AllSettle : Type 0
 AllSettle = (program : List FunctionNode) → IsProgram program → MeasuresSettle program
 
--- kernels are within the limits, and what a function within them calls is within them
+-- kernels are within the limits, what a function within them calls is within them, and it has no more barriers than nodes
 abbrev pub KernelsAreSmall : Type 0
 KernelsAreSmall = (program : List FunctionNode) → IsProgram program → (k : ℕ) (f : FunctionNode)
     → slice_get program k ≡ Some f → f.kernel ≡ true → IsSmall program k
@@ -43,6 +43,9 @@ KernelsAreSmall = (program : List FunctionNode) → IsProgram program → (k : �
 abbrev pub CalleesAreSmall : Type 0
 CalleesAreSmall = (program : List FunctionNode) → IsProgram program → (k i : ℕ) (f : FunctionNode) (site : CallSite) → IsSmall program k
     → slice_get program k ≡ Some f → slice_get f.calls i ≡ Some site → IsSmall program site.callee
+
+abbrev pub SitesAreFew : Type 0
+SitesAreFew = (program : List FunctionNode) → IsProgram program → (k : ℕ) → IsSmall program k → measured own_sites program k ≤ measured own_nodes program k
 
 -- a function within the limits is formed: its numbers are as they are counted, though the typing keeps them below 2 ^ 32
 abbrev pub SmallAreFormed : Type 0
