@@ -1,5 +1,5 @@
 -- The functions of a program as they are typed, each by itself.
-use Rattle.std.proofs.Common.{◌≡◌, refl, sym, ap, ◌∙◌, subst, ℕ, zero, suc, ◌+◌, ◌-◌, ◌^◌, ◌<◌, ◌≤◌, min, Bool, true, false, is_some, if◌then◌else◌, List, [], ◌∷◌, ◌++◌, map, length, slice_get, Option, None, Some, option_map, Result, Ok, Err, arith}
+use Rattle.std.proofs.Common.{◌≡◌, refl, sym, ap, ◌∙◌, subst, ℕ, zero, suc, ◌+◌, ◌<◌, ◌≤◌, Bool, false, is_some, if◌then◌else◌, List, [], ◌∷◌, ◌++◌, map, length, slice_get, Option, None, Some, option_map, Ok, arith}
 use Rattle.std.specs.Prelude.{count_by}
 use Rattle.std.proofs.lemmas.List.{length-append}
 use Rattle.std.proofs.lemmas.List.Sums.{sum_by-cons}
@@ -11,18 +11,16 @@ use Rattle.ocl_ast.specs.declared.units.Param.{Param}
 use Rattle.ocl_program.specs.declared.exprs.ArrayRef.TheVariants.{Parameter}
 use Rattle.ocl_program.specs.declared.functions.LocalArray.{LocalArray}
 use Rattle.ocl_program.specs.Measures.{cut}
-use Rattle.ocl_program.specs.Nodes.{FunctionNode, StmtNode, stmt_nodes}
+use Rattle.ocl_program.specs.Nodes.{FunctionNode, StmtNode}
 use Rattle.ocl_sem.specs.Source.{is_scalar, is_scalar_kind}
-use Rattle.ocl_types.specs.declared.faults.TypeFault.{TypeFault}
 use Rattle.ocl_types.specs.declared.names.Binding.{Binding}
 use Rattle.ocl_types.specs.declared.names.Binding.TheVariants.{Scalar as ScalarBinding, Array as ArrayBinding}
 use Rattle.ocl_types.specs.Names.{entry_named, is_fixed}
-use Rattle.ocl_types.specs.Exprs.{◌>>=◌}
-use Rattle.ocl_types.specs.Stmts.{Place, Standing, innermost, with_entry, declared, one_more, declared_variable, typed_stmts}
-use Rattle.ocl_types.specs.Functions.{IsProgram, at_start, with_param, with_params, made_of, typed_function, typed_functions, names_from, bodies_of, within_limits, placed, program_of}
+use Rattle.ocl_types.specs.Stmts.{Place, Standing, innermost, with_entry, typed_stmts}
+use Rattle.ocl_types.specs.Functions.{IsProgram, at_start, with_param, with_params, made_of, typed_function, typed_functions, names_from, bodies_of, within_limits, placed}
 use Rattle.program_laws.proofs.Passing.{passing, ok_is, answered, not_tested}
-use Rattle.program_laws.proofs.Pieces.{none, in_stmts, IsBelow, ScopesBelow, orders_none, most, AreSmall, Counts, Moves, moves_none, moves_both}
-use Rattle.program_laws.proofs.StmtMoves.{entry_behind, with_name, declared_is, name_declared, StmtsMove, stmts_move}
+use Rattle.program_laws.proofs.Pieces.{none, orders_none, most, AreSmall, Moves, moves_none, moves_both}
+use Rattle.program_laws.proofs.StmtMoves.{entry_behind, declared_is, name_declared, StmtsMove, stmts_move}
 
 -- ---- parameters
 

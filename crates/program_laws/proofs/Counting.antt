@@ -1,10 +1,10 @@
 -- Where no function reaches a call of itself, calls that stand inside one another are of different functions.
-use Rattle.std.proofs.Common.{◌≡◌, refl, sym, ap, ◌∙◌, subst, ℕ, zero, suc, ◌+◌, ◌<◌, ◌≤◌, ◌==◌, nat_eq, Bool, true, false, ◌||◌, ◌⊎◌, inl, inr, ◌-◌, if◌then◌else◌, List, [], ◌∷◌, length, slice_get, Option, None, Some, arith, eqb-true, eq-eqb}
+use Rattle.std.proofs.Common.{◌≡◌, refl, sym, ap, ◌∙◌, subst, ℕ, zero, suc, ◌+◌, ◌<◌, ◌≤◌, ◌==◌, nat_eq, Bool, true, false, ◌||◌, inl, inr, ◌-◌, if◌then◌else◌, List, [], ◌∷◌, length, slice_get, Some, arith, eqb-true, eq-eqb}
 use Rattle.std.specs.List.{list_any}
 use Rattle.std.proofs.lemmas.Bool.{cond_both, cases_Bool, false≢true, or_cases, or_left, or_right}
 use Rattle.ocl_program.specs.declared.functions.CallSite.{CallSite}
 use Rattle.ocl_program.specs.Nodes.{FunctionNode}
-use Rattle.ocl_measures.specs.Recursion.{calls_at, is_recursive, leads, some_leads}
+use Rattle.ocl_measures.specs.Recursion.{calls_at, leads, some_leads}
 use Rattle.program_laws.specs.Laws.{HaveNoRecursion}
 
 -- ---- how many numbers are left
@@ -37,9 +37,9 @@ one_fewer some k (suc n) below here =
     cond_both (nat_eq n k) false (some n) P
     (λ e. let there : some n ≡ true = ap some (eqb-true n k e) ∙ here in rw there (omega arith))
     (λ e.
-        let less : k < n = omega (arith, λ (same : n ≡ k). false≢true (sym e ∙ eq-eqb n k same)) in
-        let more : counted (without k some) n + 1 ≤ counted some n = one_fewer some k n less here in
-        omega arith)
+    let less : k < n = omega (arith, λ (same : n ≡ k). false≢true (sym e ∙ eq-eqb n k same)) in
+    let more : counted (without k some) n + 1 ≤ counted some n = one_fewer some k n less here in
+    omega arith)
 
 -- ---- calls that lead on
 

@@ -1,5 +1,5 @@
 -- What the typing of an expression does to what the function has so far.
-use Rattle.std.proofs.Common.{◌≡◌, refl, sym, ap, ◌∙◌, subst, ℕ, zero, suc, ◌+◌, ◌-◌, ◌^◌, ◌<◌, ◌≤◌, ◌==◌, min, Bool, true, false, if◌then◌else◌, List, [], ◌∷◌, ◌++◌, length, slice_get, Option, None, Some, Result, Ok, Err, append_assoc, arith}
+use Rattle.std.proofs.Common.{◌≡◌, refl, sym, ap, ◌∙◌, subst, ℕ, ◌+◌, ◌<◌, ◌==◌, Bool, true, false, if◌then◌else◌, List, [], ◌∷◌, ◌++◌, length, slice_get, Option, None, Some, Result, Ok, Err, append_assoc, arith}
 use Rattle.std.specs.Str.{bytes_eq}
 use Rattle.std.proofs.lemmas.List.{append-nil, length-append}
 use Rattle.std.proofs.lemmas.Option.{slice_get_within}
@@ -9,7 +9,7 @@ use Rattle.ocl_ast.specs.declared.exprs.Ident.{Ident}
 use Rattle.ocl_ast.specs.declared.units.Gives.{Gives}
 use Rattle.ocl_ast.specs.declared.units.Gives.TheVariants.{Nothing, Value}
 use Rattle.ocl_program.specs.Measures.{cut}
-use Rattle.ocl_program.specs.Nodes.{ExprNode, VariableNode, CallNode, ArgNodes, NoArgs, ValueArg, ArrayArg, ArgNode, ValueNode, ArrayNode, arg_nodes}
+use Rattle.ocl_program.specs.Nodes.{ExprNode, CallNode, ArgNodes, NoArgs, ValueArg, ArrayArg, ArgNode, ValueNode, ArrayNode, arg_nodes}
 use Rattle.ocl_types.specs.declared.faults.TypeFault.{TypeFault}
 use Rattle.ocl_types.specs.declared.names.Binding.{Binding}
 use Rattle.ocl_types.specs.declared.names.Binding.TheVariants.{Scalar as ScalarBinding, Array as ArrayBinding}
@@ -17,11 +17,11 @@ use Rattle.ocl_types.specs.declared.names.FoundArray.{FoundArray}
 use Rattle.ocl_types.specs.declared.names.Meaning.{Meaning}
 use Rattle.ocl_types.specs.declared.names.Meaning.TheVariants.{Bound, Function, Builtin as BuiltinMeaning, Unknown as UnknownMeaning}
 use Rattle.ocl_types.specs.Names.{Scope, entry_named, or_outer, binding_named, builtin_meaning, builtin_named, function_from, function_meaning, bound_meaning, meaning_of}
-use Rattle.ocl_types.specs.Exprs.{◌>>=◌, Typed, MaybeTyped, variable_of, array_of, Callee, Helper, BuiltinCallee, helper_of, callee_of, wanted, pointer_at, first_pos, ArgsSofar, bare_array, with_argument, stranger, TypedCall, call_made, unless_stranger, whole_call, value_of, value_call, typed, typed_args, typed_call, typed_option}
+use Rattle.ocl_types.specs.Exprs.{Typed, MaybeTyped, variable_of, array_of, Callee, Helper, BuiltinCallee, helper_of, callee_of, wanted, pointer_at, first_pos, ArgsSofar, bare_array, with_argument, stranger, TypedCall, call_made, unless_stranger, whole_call, value_of, typed, typed_args, typed_call, typed_option}
 use Rattle.ocl_types.specs.Stmts.{Standing, with_calls}
-use Rattle.program_laws.specs.Formed.{AreBelow, expr_calls, args_calls, expr_variables, args_variables}
+use Rattle.program_laws.specs.Formed.{expr_calls, args_calls, expr_variables, args_variables}
 use Rattle.program_laws.proofs.Passing.{passing, ok_is, answered, tested, not_tested}
-use Rattle.program_laws.proofs.Pieces.{Pieces, none, joined, one_variable, one_call, in_expr, in_args, in_option, below_both, IsBelow, ScopeBelow, ScopesBelow, orders_none, orders_one, most, Moves, moves_none, moves_both, moves_as}
+use Rattle.program_laws.proofs.Pieces.{joined, one_variable, one_call, in_expr, in_args, in_option, below_both, IsBelow, ScopeBelow, ScopesBelow, orders_none, orders_one, most, Moves, moves_none, moves_both, moves_as}
 
 -- ---- names
 
@@ -137,7 +137,7 @@ callee_below fs pos UnknownMeaning callee h = cc
 made_moves : (n : ℕ) (st : Standing) (callee : Callee) (sofar : ArgsSofar) → CalleeBelow n callee → ArgsMove n st sofar → CallMoves n st (call_made callee sofar)
 made_moves n st (Helper k params gives) sofar below h =
     let whole : joined (in_args (arg_nodes sofar.args)) (one_call (cut (length sofar.calls))) ≡ in_expr (CallNode (cut (length sofar.calls)) (arg_nodes sofar.args)) =
-        ap (λ (vs : List ℕ). record { calls = args_calls (arg_nodes sofar.args) ++ cut (length sofar.calls) ∷ []; sites = []; variables = vs; arrays = [] }) (append-nil (args_variables (arg_nodes sofar.args))) in
+    ap (λ (vs : List ℕ). record { calls = args_calls (arg_nodes sofar.args) ++ cut (length sofar.calls) ∷ []; sites = []; variables = vs; arrays = [] }) (append-nil (args_variables (arg_nodes sofar.args))) in
     moves_as whole (moves_both h (called n (with_calls sofar.calls st) k below))
 made_moves n st (BuiltinCallee b) sofar below h = h
 
@@ -168,9 +168,9 @@ numbers_behind numbers of_args nothing value array (ArrayNode a ∷ args) last t
 pieces_behind : (args tail : List ArgNode) → joined (in_args (arg_nodes args)) (in_args (arg_nodes tail)) ≡ in_args (arg_nodes (args ++ tail))
 pieces_behind args tail =
     let calls : args_calls (arg_nodes (args ++ tail)) ≡ args_calls (arg_nodes args) ++ args_calls (arg_nodes tail) =
-        numbers_behind expr_calls args_calls refl (λ e more. refl) (λ a more. refl) args (arg_nodes tail) tail refl in
+    numbers_behind expr_calls args_calls refl (λ e more. refl) (λ a more. refl) args (arg_nodes tail) tail refl in
     let variables : args_variables (arg_nodes (args ++ tail)) ≡ args_variables (arg_nodes args) ++ args_variables (arg_nodes tail) =
-        numbers_behind expr_variables args_variables refl (λ e more. refl) (λ a more. refl) args (arg_nodes tail) tail refl in
+    numbers_behind expr_variables args_variables refl (λ e more. refl) (λ a more. refl) args (arg_nodes tail) tail refl in
     sym (λ i. record { calls = calls i; sites = []; variables = variables i; arrays = [] })
 
 -- the pieces of one argument
@@ -221,7 +221,7 @@ mutual
       let w = passing (whole_call name.pos c.value s.value) s.rest in
       value_moves (length fs) st name.pos w.value w.value.gives t w.rest
       (whole_moves (length fs) st name.pos c.value s.value w.value (callee_below fs name.pos (meaning_of fs st.scopes name.text) c.value c.first)
-        (args_move fs st c.value (record { args = []; given = []; calls = st.calls }) args s.value (moves_none (length fs) st) s.first) w.first)
+      (args_move fs st c.value (record { args = []; given = []; calls = st.calls }) args s.value (moves_none (length fs) st) s.first) w.first)
   expr_moves fs st (ParenTree part pos) t h =
       let p = passing (typed fs st.scopes st.calls part) h in
       answered (ExprMoves (length fs) st) p.rest (expr_moves fs st part p.value p.first)

@@ -6,3 +6,8 @@ pub mod Bodies
 pub mod NoRecursion
 pub mod Counting
 pub mod Settling
+pub mod Weights
+pub mod Keeping
+pub mod Forming
+pub mod Limits
+pub mod WorkedForms

@@ -1,20 +1,19 @@
 -- No function of a program reaches a call of itself.
-use Rattle.std.proofs.Common.{◌≡◌, refl, sym, ap, ◌∙◌, subst, ℕ, zero, suc, ◌+◌, ◌<◌, ◌≤◌, ◌==◌, Bool, true, false, ◌||◌, if◌then◌else◌, List, [], ◌∷◌, map, length, slice_get, Option, None, Some, option_map, Result, Ok, Err, arith}
+use Rattle.std.proofs.Common.{◌≡◌, refl, sym, ap, ◌∙◌, subst, ℕ, zero, suc, ◌+◌, ◌<◌, ◌==◌, Bool, true, false, ◌||◌, if◌then◌else◌, List, [], ◌∷◌, map, length, slice_get, Option, None, Some, option_map, Result, Ok, arith}
 use Rattle.std.specs.List.{list_any}
 use Rattle.std.proofs.Math.Path.{fun_ext}
 use Rattle.std.proofs.lemmas.List.{length-map}
 use Rattle.std.proofs.lemmas.Option.{slice_get-map}
 use Rattle.ocl_program.specs.declared.functions.CallSite.{CallSite}
-use Rattle.ocl_program.specs.Measures.{cut, callees, measured, own_sites, own_variables}
+use Rattle.ocl_program.specs.Measures.{callees, measured, own_sites, own_variables}
 use Rattle.ocl_program.specs.Nodes.{FunctionNode}
 use Rattle.ocl_measures.specs.Recursion.{calls_at, is_recursive, leads, some_leads}
 use Rattle.ocl_types.specs.declared.faults.TypeFault.{TypeFault}
 use Rattle.ocl_types.specs.declared.faults.TypeFault.TheVariants.{Recursive}
-use Rattle.ocl_types.specs.Exprs.{◌>>=◌}
 use Rattle.ocl_types.specs.Functions.{IsProgram, each_from, kernel_fault, params_fault, placed, recursion_of, sites_from, unless_fault, within_limits}
 use Rattle.program_laws.specs.Laws.{HaveNoRecursion}
 use Rattle.program_laws.proofs.Passing.{passing}
-use Rattle.program_laws.proofs.Bodies.{Made, program_made}
+use Rattle.program_laws.proofs.Bodies.{program_made}
 
 -- ---- what each function passes
 
@@ -40,9 +39,6 @@ each_passes fault j (g ∷ more) (suc k) f h e =
 pub record Limits (program : List FunctionNode) : Type 0 where
   pub recursion : each_from (recursion_of program) 0 program ≡ Ok tt
   pub kernels : each_from (kernel_fault program) 0 program ≡ Ok tt
-
-passed_unit : (r : Result (Unit {0}) TypeFault) (x : Unit {0}) → r ≡ Ok x → r ≡ Ok tt
-passed_unit r x h = h
 
 pub limits_of : (program : List FunctionNode) → within_limits program ≡ Ok tt → Limits program
 limits_of program h =
@@ -99,6 +95,6 @@ none_recursive program p k below =
     let made = program_made program p in
     let long : length made.base ≡ length program = sym (length-map made.base (placed made.base)) ∙ ap length made.is in
     let same : is_recursive program k ≡ is_recursive made.base k =
-        ap (λ (fs : List FunctionNode). leads fs k (length fs) k) (sym made.is) ∙ ap (λ (n : ℕ). leads (map (placed made.base) made.base) k n k) (length-map made.base (placed made.base))
-        ∙ leads_alike made.base made.base k (length made.base) k in
+    ap (λ (fs : List FunctionNode). leads fs k (length fs) k) (sym made.is) ∙ ap (λ (n : ℕ). leads (map (placed made.base) made.base) k n k) (length-map made.base (placed made.base))
+    ∙ leads_alike made.base made.base k (length made.base) k in
     same ∙ base_recursion made.base k made.limits (slice_get made.base k) refl (omega arith)

@@ -1,5 +1,5 @@
 -- What follows where some parts pass one after another.
-use Rattle.std.proofs.Common.{◌≡◌, refl, sym, ap, ◌∙◌, subst, ℕ, Bool, true, false, if◌then◌else◌, Result, Ok, Err}
+use Rattle.std.proofs.Common.{◌≡◌, refl, ap, subst, Bool, true, false, if◌then◌else◌, Result, Ok, Err}
 use Rattle.ocl_types.specs.declared.faults.TypeFault.{TypeFault}
 use Rattle.ocl_types.specs.Exprs.{◌>>=◌}
 

@@ -1,5 +1,5 @@
 -- What a part of a body has of each kind, and what its typing does to what the function has so far.
-use Rattle.std.proofs.Common.{◌≡◌, refl, sym, ap, ◌∙◌, subst, ℕ, zero, suc, ◌+◌, ◌-◌, ◌^◌, ◌<◌, ◌≤◌, min, List, [], ◌∷◌, ◌++◌, map, length, Option, None, Some, append_assoc, arith}
+use Rattle.std.proofs.Common.{◌≡◌, sym, ap, ◌∙◌, subst, ℕ, ◌+◌, ◌-◌, ◌^◌, ◌<◌, ◌≤◌, List, [], ◌∷◌, ◌++◌, map, length, Option, append_assoc, arith}
 use Rattle.std.specs.List.{range_with_len}
 use Rattle.std.proofs.lemmas.List.{append-nil, length-append}
 use Rattle.std.proofs.lemmas.List.FromFn.{map-range_with_len_more}
@@ -9,7 +9,7 @@ use Rattle.ocl_program.specs.Nodes.{ExprNode, ArgNodes, StmtNode, StmtNodes}
 use Rattle.ocl_types.specs.declared.names.Binding.{Binding}
 use Rattle.ocl_types.specs.declared.names.Binding.TheVariants.{Scalar as ScalarBinding, Array as ArrayBinding}
 use Rattle.ocl_types.specs.Names.{Scope}
-use Rattle.ocl_types.specs.Stmts.{Standing, one_more}
+use Rattle.ocl_types.specs.Stmts.{Standing}
 use Rattle.program_laws.specs.Formed.{AreBelow, where_written, expr_calls, args_calls, stmt_calls, stmts_calls, stmt_sites, stmts_sites, expr_variables, args_variables, stmt_variables, stmts_variables, stmt_arrays, stmts_arrays}
 
 -- the numbers in a part of a body

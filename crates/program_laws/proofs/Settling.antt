@@ -1,10 +1,10 @@
 -- As many levels of calls as there are functions measure all of them.
-use Rattle.std.proofs.Common.{◌≡◌, refl, sym, ap, ◌∙◌, subst, ℕ, zero, suc, ◌+◌, ◌<◌, ◌≤◌, nat_eq, Bool, true, false, ◌⊎◌, inl, inr, if◌then◌else◌, List, [], ◌∷◌, map, sum, length, slice_get, Option, None, Some, option_map, arith, eqb-true}
+use Rattle.std.proofs.Common.{◌≡◌, refl, sym, ap, ◌∙◌, subst, ℕ, zero, suc, ◌+◌, ◌<◌, ◌≤◌, nat_eq, Bool, true, false, inl, inr, if◌then◌else◌, List, [], ◌∷◌, map, sum, length, slice_get, Option, None, Some, option_map, arith, eqb-true}
 use Rattle.std.proofs.Math.Path.{fun_ext}
 use Rattle.std.proofs.lemmas.Bool.{cases_Bool, false≢true}
 use Rattle.std.proofs.lemmas.Option.{slice_get_within, slice_get-map}
 use Rattle.ocl_program.specs.declared.functions.CallSite.{CallSite}
-use Rattle.ocl_program.specs.Measures.{where_some, callees, at_call, greatest, expanded, measured, of_function, own_variables, own_sites, own_nodes, own_depth, own_control, own_calls, stmts_size, stmts_depth, stmts_control}
+use Rattle.ocl_program.specs.Measures.{where_some, at_call, greatest, expanded, of_function, own_variables, own_sites, own_nodes, own_depth, own_control, own_calls, stmts_size, stmts_depth, stmts_control}
 use Rattle.ocl_program.specs.Nodes.{FunctionNode}
 use Rattle.ocl_measures.specs.Recursion.{leads}
 use Rattle.ocl_types.specs.Functions.{IsProgram}
@@ -67,21 +67,21 @@ deep_enough own looks program none zero n some few room k None e led = sym (ap (
 deep_enough own looks program none zero n some few room k (Some f) e led =
     let below : k < length program = slice_get_within program k f e in
     let less : counted (without k some) (length program) + 1 ≤ counted some (length program) =
-        one_fewer some k (length program) below (still_allowed program none zero n some room k below led) in
+    one_fewer some k (length program) below (still_allowed program none zero n some room k below led) in
     absurd (omega arith)
 deep_enough own looks program none (suc m) n some few room k None e led =
     ap (of_function own (expanded own program m)) e ∙ sym (ap (of_function own (expanded own program (suc m))) e)
 deep_enough own looks program none (suc m) n some few room k (Some f) e led =
     let below : k < length program = slice_get_within program k f e in
     let less : counted (without k some) (length program) + 1 ≤ counted some (length program) =
-        one_fewer some k (length program) below (still_allowed program none (suc m) n some room k below led) in
+    one_fewer some k (length program) below (still_allowed program none (suc m) n some room k below led) in
     ap (of_function own (expanded own program m)) e
     ∙ looks f (expanded own program m) (expanded own program (suc m)) (λ i site there.
-      deep_enough own looks program none m (suc n) (without k some) (omega arith) (omega arith) site.callee (slice_get program site.callee) refl
-      (λ a gone. elim (cases_Bool (nat_eq a k)) [
-        | inl at ↦ subst (λ x. leads program site.callee (suc n) x ≡ true) (sym (eqb-true a k at)) (first_call program n k i f site e there)
-        | inr other ↦ leads_on program n k i a f site e there (led a (ap (λ b. if b then false else some a) (sym other) ∙ gone))
-      ]))
+    deep_enough own looks program none m (suc n) (without k some) (omega arith) (omega arith) site.callee (slice_get program site.callee) refl
+    (λ a gone. elim (cases_Bool (nat_eq a k)) [
+      | inl at ↦ subst (λ x. leads program site.callee (suc n) x ≡ true) (sym (eqb-true a k at)) (first_call program n k i f site e there)
+      | inr other ↦ leads_on program n k i a f site e there (led a (ap (λ b. if b then false else some a) (sym other) ∙ gone))
+    ]))
     ∙ sym (ap (of_function own (expanded own program (suc m))) e)
 
 settles : (own : FunctionNode → (ℕ → ℕ) → ℕ) → LooksAtCallees own → (program : List FunctionNode) → HaveNoRecursion program → Settles own program

@@ -1,26 +1,25 @@
 -- What the typing of a statement does to what the function has so far.
-use Rattle.std.proofs.Common.{◌≡◌, refl, sym, ap, ◌∙◌, subst, ℕ, zero, suc, ◌+◌, ◌-◌, ◌^◌, ◌<◌, ◌≤◌, nat_le, min, Bool, true, false, ◌&&◌, is_some, if◌then◌else◌, List, [], ◌∷◌, ◌++◌, length, Option, None, Some, Result, Ok, Err, append_assoc, arith, leb-true}
+use Rattle.std.proofs.Common.{◌≡◌, refl, sym, ap, ◌∙◌, subst, ℕ, ◌+◌, ◌<◌, ◌≤◌, nat_le, Bool, true, false, ◌&&◌, is_some, List, [], ◌∷◌, ◌++◌, length, Option, Ok, append_assoc, arith, leb-true}
 use Rattle.std.proofs.lemmas.List.{append-nil, length-append}
 use Rattle.vx_base.specs.declared.types.Pos.{Pos}
 use Rattle.vx_base.specs.declared.types.Space.TheVariants.{Local}
 use Rattle.ocl_ast.specs.Trees.{ExprTree, NumberTree, NameTree, UnaryTree, BinaryTree, BothTree, EitherTree, ChooseTree, CastTree, IndexTree, CallTree, ParenTree, TargetTree, NameTarget, IndexTarget, StmtTree, DeclareTree, LocalArrayTree, AssignTree, CallStmtTree, BarrierTree, IfTree, IfElseTree, WhileTree, DoTree, ForTree, BreakTree, ContinueTree, ReturnTree, BlockTree, EmptyTree, StmtTrees, NoStmts as NoStmtTrees, AndStmt as AndStmtTree, FunctionTree}
 use Rattle.ocl_ast.specs.declared.exprs.Ident.{Ident}
 use Rattle.ocl_ast.specs.declared.stmts.AssignOp.{AssignOp}
-use Rattle.ocl_program.specs.declared.exprs.ArrayRef.TheVariants.{Parameter, Declared}
+use Rattle.ocl_program.specs.declared.exprs.ArrayRef.TheVariants.{Declared}
 use Rattle.ocl_program.specs.declared.functions.LocalArray.{LocalArray}
 use Rattle.ocl_program.specs.Measures.{cut}
 use Rattle.ocl_program.specs.Nodes.{ExprNode, StmtNode, DeclareNode, LocalArrayNode, DoNode, BreakNode, ContinueNode, StmtNodes, NoStmts, AndStmt, stmt_nodes}
-use Rattle.ocl_types.specs.declared.faults.TypeFault.{TypeFault}
 use Rattle.ocl_types.specs.declared.names.Binding.{Binding}
 use Rattle.ocl_types.specs.declared.names.Binding.TheVariants.{Scalar as ScalarBinding, Array as ArrayBinding}
 use Rattle.ocl_types.specs.declared.names.Meaning.{Meaning}
 use Rattle.ocl_types.specs.declared.names.Meaning.TheVariants.{Bound, Function, Builtin as BuiltinMeaning, Unknown as UnknownMeaning}
 use Rattle.ocl_types.specs.Names.{Scope, entry_named, meaning_of}
-use Rattle.ocl_types.specs.Exprs.{◌>>=◌, Typed, MaybeTyped, typed, typed_call, typed_option}
-use Rattle.ocl_types.specs.Stmts.{Place, Standing, innermost, outer_scopes, with_entry, declared, one_more, declared_variable, opened, closed, with_calls, is_count, count_value, most_elements, checked_count, typed_count, Changed, Variable, Element, TypedTarget, assigned_name, assigned_array, typed_target, change_node, jump_in, returned, inner, in_turn, expr_in, option_in, typed_stmt, typed_stmts}
-use Rattle.program_laws.specs.Formed.{AreBelow, expr_calls, expr_variables, stmt_calls, stmts_calls, stmt_sites, stmts_sites, stmt_variables, stmts_variables, stmt_arrays, stmts_arrays}
+use Rattle.ocl_types.specs.Exprs.{Typed, MaybeTyped, typed, typed_call, typed_option}
+use Rattle.ocl_types.specs.Stmts.{Place, Standing, innermost, outer_scopes, with_entry, declared, one_more, declared_variable, opened, closed, with_calls, is_count, count_value, most_elements, typed_count, Changed, Variable, Element, TypedTarget, assigned_name, assigned_array, typed_target, change_node, jump_in, returned, inner, in_turn, expr_in, option_in, typed_stmt, typed_stmts}
+use Rattle.program_laws.specs.Formed.{expr_calls, expr_variables, stmt_calls, stmts_calls, stmt_sites, stmts_sites, stmt_variables, stmts_variables, stmt_arrays, stmts_arrays}
 use Rattle.program_laws.proofs.Passing.{passing, ok_is, answered, tested, not_tested, test_held}
-use Rattle.program_laws.proofs.Pieces.{Pieces, none, joined, one_variable, one_site, one_array, in_expr, in_option, in_stmt, in_stmts, IsBelow, ScopeBelow, ScopesBelow, scopes_more, orders_none, orders_one, AreSmall, most, Counts, Moves, moves_none, moves_both, moves_as}
+use Rattle.program_laws.proofs.Pieces.{Pieces, none, joined, one_variable, one_site, one_array, in_expr, in_option, in_stmt, in_stmts, IsBelow, ScopeBelow, ScopesBelow, scopes_more, orders_none, orders_one, AreSmall, Moves, moves_none, moves_both, moves_as}
 use Rattle.program_laws.proofs.ExprMoves.{MeaningBelow, meaning_below, variable_named, expr_moves, call_moves, option_moves}
 
 -- ---- scopes
@@ -152,23 +151,21 @@ count_plain fs ss calls (ParenTree part pos) t is h =
     let p = passing (typed fs ss calls part) h in answered (λ (x : Typed). in_expr x.expr ≡ none) p.rest (count_plain fs ss calls part p.value is p.first)
 
 -- a count that is accepted
-record IsSized (outermost : Bool) (c : ExprNode) : Type 0 where
+record IsSized (c : ExprNode) : Type 0 where
   pub plain : in_expr c ≡ none
   pub least : 1 ≤ count_value c
   pub greatest : count_value c ≤ 262144
-  pub outer : outermost ≡ true
 
-count_sized : (place : Place) (pos : Pos) (count : ExprTree) (c : ExprNode) → typed_count place pos count ≡ Ok c → IsSized place.outermost c
+count_sized : (place : Place) (pos : Pos) (count : ExprTree) (c : ExprNode) → typed_count place pos count ≡ Ok c → IsSized c
 count_sized place pos count c h =
     let t = passing (typed place.functions [] [] count) (tested (is_count count) _ _ h) in
     let fits : place.outermost && (nat_le 1 (count_value t.value.expr) && nat_le (count_value t.value.expr) most_elements) ≡ true =
-        test_held (place.outermost && (nat_le 1 (count_value t.value.expr) && nat_le (count_value t.value.expr) most_elements)) _ _ t.rest in
+    test_held (place.outermost && (nat_le 1 (count_value t.value.expr) && nat_le (count_value t.value.expr) most_elements)) _ _ t.rest in
     let range = right_true place.outermost (nat_le 1 (count_value t.value.expr) && nat_le (count_value t.value.expr) most_elements) fits in
-    answered (IsSized place.outermost) (tested (place.outermost && (nat_le 1 (count_value t.value.expr) && nat_le (count_value t.value.expr) most_elements)) _ _ t.rest) (record {
+    answered IsSized (tested (place.outermost && (nat_le 1 (count_value t.value.expr) && nat_le (count_value t.value.expr) most_elements)) _ _ t.rest) (record {
       plain = count_plain place.functions [] [] count t.value (test_held (is_count count) _ _ h) t.first;
       least = leb-true 1 (count_value t.value.expr) (left_true (nat_le 1 (count_value t.value.expr)) (nat_le (count_value t.value.expr) most_elements) range);
       greatest = leb-true (count_value t.value.expr) 262144 (right_true (nat_le 1 (count_value t.value.expr)) (nat_le (count_value t.value.expr) most_elements) range);
-      outer = left_true place.outermost (nat_le 1 (count_value t.value.expr) && nat_le (count_value t.value.expr) most_elements) fits;
     })
 
 -- ---- parts of statements
@@ -237,9 +234,9 @@ declare_moves place st elem constant name value d h =
     let same : made ≡ now.value = declared_is name (λ variable. ScalarBinding variable elem constant) st now.value now.first in
     answered (StmtMoves (length place.functions) st) v.rest
     (subst (λ (x : Standing). typed_option place.functions x.scopes x.calls value ≡ Ok v.value → Moves (length place.functions) st (in_stmt (DeclareNode st.variables elem v.value.expr)) (with_calls v.value.calls x)) same
-      (λ typing. moves_both (name_declared (length place.functions) name (λ variable. ScalarBinding variable elem constant) st is_scalar)
-        (moves_both (variable_named (length place.functions) made st.variables (λ within below. omega arith)) (option_moves place.functions made value v.value typing)))
-      v.first)
+    (λ typing. moves_both (name_declared (length place.functions) name (λ variable. ScalarBinding variable elem constant) st is_scalar)
+    (moves_both (variable_named (length place.functions) made st.variables (λ within below. omega arith)) (option_moves place.functions made value v.value typing)))
+    v.first)
 
 array_moves : (place : Place) (st : Standing) (elem : _) (name : Ident) (count : ExprTree) (d : StmtNode × Standing)
     → typed_stmt place st (LocalArrayTree elem name count) ≡ Ok d → StmtMoves (length place.functions) st d
@@ -250,10 +247,10 @@ array_moves place st elem name count d h =
     let sized = count_sized place name.pos count c.value c.first in
     let added : LocalArray = record { elem = elem; count = count_value c.value } in
     let plain : joined none (one_array (cut (length st.arrays))) ≡ in_stmt (LocalArrayNode (cut (length st.arrays)) c.value) =
-        sym (λ i. record { calls = (sized.plain i).calls; sites = []; variables = (sized.plain i).variables; arrays = cut (length st.arrays) ∷ [] }) in
+    sym (λ i. record { calls = (sized.plain i).calls; sites = []; variables = (sized.plain i).variables; arrays = cut (length st.arrays) ∷ [] }) in
     answered (StmtMoves (length place.functions) st) c.rest
     (subst (λ (x : Standing). Moves (length place.functions) st (in_stmt (LocalArrayNode (cut (length st.arrays)) c.value)) (record x { arrays = x.arrays ++ added ∷ [] })) (declared_is name binding st now.value now.first)
-      (moves_as plain (moves_both (name_declared (length place.functions) name binding st (λ v bound h. tt)) (array_declared (length place.functions) (with_name name binding st) added sized.least sized.greatest))))
+    (moves_as plain (moves_both (name_declared (length place.functions) name binding st (λ v bound h. tt)) (array_declared (length place.functions) (with_name name binding st) added sized.least sized.greatest))))
 
 -- ---- statements
 
@@ -286,7 +283,7 @@ mutual
   stmt_moves place st (DoTree body test) d h =
       let b = passing (typed_stmt (in_turn place) st body) h in let t = passing (expr_in place b.value.1 test) b.rest in
       let plain : joined (in_stmt b.value.0) (in_expr t.value.expr) ≡ in_stmt (DoNode b.value.0 t.value.expr) =
-          λ i. record { calls = stmt_calls b.value.0 ++ expr_calls t.value.expr; sites = append-nil (stmt_sites b.value.0) i; variables = stmt_variables b.value.0 ++ expr_variables t.value.expr; arrays = append-nil (stmt_arrays b.value.0) i } in
+      λ i. record { calls = stmt_calls b.value.0 ++ expr_calls t.value.expr; sites = append-nil (stmt_sites b.value.0) i; variables = stmt_variables b.value.0 ++ expr_variables t.value.expr; arrays = append-nil (stmt_arrays b.value.0) i } in
       answered (StmtMoves (length place.functions) st) t.rest
       (moves_as plain (moves_both (stmt_moves (in_turn place) st body b.value b.first) (expr_moves place.functions b.value.1 test t.value t.first)))
   stmt_moves place st (ForTree first test step body) d h =

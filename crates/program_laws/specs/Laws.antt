@@ -1,10 +1,12 @@
 -- What each program of a file has.
-use Rattle.std.specs.Prelude.{◌≡◌, ℕ, ◌<◌, ◌≤◌, false, List, length, Some, slice_get}
+use Rattle.std.specs.Prelude.{◌≡◌, ℕ, ◌<◌, ◌≤◌, false, true, List, length, Some, slice_get}
 use Rattle.ocl_measures.specs.Recursion.{is_recursive}
+use Rattle.ocl_program.specs.declared.functions.CallSite.{CallSite}
 use Rattle.ocl_program.specs.declared.functions.LocalArray.{LocalArray}
 use Rattle.ocl_program.specs.Measures.{measured, own_calls, own_control, own_depth, own_nodes, own_sites, own_variables}
 use Rattle.ocl_program.specs.Nodes.{FunctionNode}
 use Rattle.ocl_types.specs.Functions.{IsProgram}
+use Rattle.program_laws.specs.Formed.{IsFormed, IsSmall}
 
 -- each array has at least one element and at most 2 ^ 18
 abbrev pub ArraysAreSmall : Type 0
@@ -32,3 +34,20 @@ pub record MeasuresSettle (program : List FunctionNode) : Type 0 where
 
 abbrev pub AllSettle : Type 0
 AllSettle = (program : List FunctionNode) → IsProgram program → MeasuresSettle program
+
+-- kernels are within the limits, what a function within them calls is within them, and it has no more barriers than nodes
+abbrev pub KernelsAreSmall : Type 0
+KernelsAreSmall = (program : List FunctionNode) → IsProgram program → (k : ℕ) (f : FunctionNode)
+    → slice_get program k ≡ Some f → f.kernel ≡ true → IsSmall program k
+
+abbrev pub CalleesAreSmall : Type 0
+CalleesAreSmall = (program : List FunctionNode) → IsProgram program → (k i : ℕ) (f : FunctionNode) (site : CallSite) → IsSmall program k
+    → slice_get program k ≡ Some f → slice_get f.calls i ≡ Some site → IsSmall program site.callee
+
+abbrev pub SitesAreFew : Type 0
+SitesAreFew = (program : List FunctionNode) → IsProgram program → (k : ℕ) → IsSmall program k → measured own_sites program k ≤ measured own_nodes program k
+
+-- a function within the limits is formed: its numbers are as they are counted, though the typing keeps them below 2 ^ 32
+abbrev pub SmallAreFormed : Type 0
+SmallAreFormed = (program : List FunctionNode) → IsProgram program → (k : ℕ) (f : FunctionNode) → IsSmall program k
+    → slice_get program k ≡ Some f → IsFormed program f

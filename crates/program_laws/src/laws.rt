@@ -1,5 +1,5 @@
 //! Laws of the programs of files, each as a contract. The functions themselves do nothing.
-ghost use Rattle.program_laws.specs.Laws.{AllSettle, ArraysAreSmall, NoneIsRecursive};
+ghost use Rattle.program_laws.specs.Laws.{AllSettle, ArraysAreSmall, CalleesAreSmall, KernelsAreSmall, NoneIsRecursive, SitesAreFew, SmallAreFormed};
 
 /// Each array of a function has at least one element and at most 262,144.
 pub fn arrays_are_small()
@@ -14,4 +14,17 @@ pub fn none_is_recursive()
 /// What a function has with its calls expanded is its own and what its callees have with theirs.
 pub fn measures_settle()
     ensures { AllSettle }
+{}
+
+/// A kernel with its calls expanded has at most 256 variables and 16,384 nodes, and so has each function that one within these limits
+/// calls. Such a function has no more barriers than nodes.
+pub fn kernels_are_small()
+    ensures kernels { KernelsAreSmall }
+    ensures callees { CalleesAreSmall }
+    ensures sites { SitesAreFew }
+{}
+
+/// In a function within these limits variables, calls, barriers and arrays are numbered in the order of the text.
+pub fn small_are_formed()
+    ensures { SmallAreFormed }
 {}
