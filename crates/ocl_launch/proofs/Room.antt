@@ -1,5 +1,5 @@
 -- The arrays of a kernel of a program, whose parameters stand for what fits them, have room.
-use Rattle.std.proofs.Common.{◌≡◌, ℕ, zero, suc, ◌*◌, ◌^◌, ◌<◌, ◌≤◌, nat_le, ◌==◌, Bool, true, false, ◌&&◌, List, [], ◌∷◌, length, map, zip, Option, None, Some, refl, ap, sym, ◌∙◌, subst, absurd, arith}
+use Rattle.std.proofs.Common.{◌≡◌, ℕ, zero, suc, ◌*◌, ◌^◌, ◌≤◌, ◌==◌, true, List, [], ◌∷◌, length, zip, Option, None, Some, refl, arith}
 use Rattle.std.proofs.lemmas.Bool.{and_parts, leb-true}
 use Rattle.std.specs.Prelude.{slice_get}
 use Rattle.std.specs.List.{list_all}
@@ -11,15 +11,13 @@ use Rattle.vx_base.specs.declared.types.ParamKind.TheVariants.{Scalar, Pointer}
 use Rattle.item_acts.specs.declared.acts.Bound.{Bound}
 use Rattle.item_acts.specs.declared.acts.Bound.TheVariants.{Value, Array}
 use Rattle.ocl_ast.specs.declared.units.Param.{Param}
-use Rattle.ocl_program.specs.declared.exprs.ArrayRef.{ArrayRef}
 use Rattle.ocl_program.specs.declared.exprs.ArrayRef.TheVariants.{Parameter, Declared}
 use Rattle.ocl_program.specs.declared.functions.LocalArray.{LocalArray}
 use Rattle.ocl_program.specs.Nodes.{FunctionNode}
 use Rattle.ocl_sem.specs.declared.settings.ItemArray.{ItemArray}
 use Rattle.ocl_sem.specs.Launched.{IsRoomy}
 use Rattle.ocl_sem.specs.Settings.{array_bound, bound_array, declared_array}
-use Rattle.ocl_types.specs.Functions.{IsProgram}
-use Rattle.ocl_launch.specs.Fitting.{has_room, is_fitting, are_fitting}
+use Rattle.ocl_launch.specs.Fitting.{is_fitting, are_fitting}
 
 -- an array ends within 2 ^ 32 bytes
 abbrev HasRoom : ItemArray → Type 0

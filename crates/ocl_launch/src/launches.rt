@@ -33,15 +33,21 @@ fn is_fitting(kind: ParamKind, bound: Bound) -> bool
     }
 }
 
+/// Whether each parameter may stand for the bound at its place, as far as both lists go.
+fn each_fits(params: &[Param], bounds: &[Bound]) -> bool
+    ensures { result ≡ list_all (λ pair. is_fitting_of pair.0.kind pair.1) (zip params.now bounds.now) }
+{
+    params
+        .iter()
+        .zip(bounds)
+        .all(|(param, bound)| is_fitting(param.kind, *bound))
+}
+
 /// Whether parameters may stand for these, in order.
 fn all_fit(params: &[Param], bounds: &[Bound]) -> bool
-    ensures { result ≡ (length params.now == length bounds.now) && list_all (λ pair. is_fitting_of pair.0.kind pair.1) (zip params.now bounds.now) }
+    ensures { result ≡ are_fitting params.now bounds.now }
 {
-    params.len() == bounds.len()
-        && params
-            .iter()
-            .zip(bounds)
-            .all(|(param, bound)| is_fitting(param.kind, *bound))
+    params.len() == bounds.len() && each_fits(params, bounds)
 }
 
 /// Whether the parameters of a kernel may stand for these: a scalar for a number, and a pointer for an array of at most
