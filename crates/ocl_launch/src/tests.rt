@@ -36,19 +36,21 @@ fn address_of(place: Place) -> usize {
 
 fn load(memory: &[u8], place: Place, size: Size) -> Result<u32, Fail> {
     let at = address_of(place);
-    if at + size.bytes() as usize > memory.len() {
-        return Err("no such place".into());
+    match memory.len().checked_sub(size.bytes() as usize) {
+        Some(last) if at <= last => Ok(get_le(memory, at, size)),
+        _ => Err("no such place".into()),
     }
-    Ok(get_le(memory, at, size))
 }
 
 fn store(memory: &mut [u8], place: Place, size: Size, value: u32) -> Result<(), Fail> {
     let at = address_of(place);
-    if at + size.bytes() as usize > memory.len() {
-        return Err("no such place".into());
+    match memory.len().checked_sub(size.bytes() as usize) {
+        Some(last) if at <= last => {
+            put_le(memory, at, size, value);
+            Ok(())
+        }
+        _ => Err("no such place".into()),
     }
-    put_le(memory, at, size, value);
-    Ok(())
 }
 
 /// Lets an item go on until it waits, ends or faults.

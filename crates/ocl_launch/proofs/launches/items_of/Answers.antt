@@ -18,8 +18,8 @@ of-requires c =
     let program : List FunctionNode = map function_node functions in
     let seen : c.as_slice-functions.result.now ≡ functions = c.as_slice-functions.ensures.value in
     let here : slice_get functions c.args.kernel ≡ Some kernel =
-        subst (λ (l : List TypedFunction). slice_get l c.args.kernel ≡ Some kernel) seen
-        (slice_get_read c.as_slice-functions.result.now (length functions) c.args.kernel kernel (ap length (sym seen)) c.requires.exists c.index-functions-kernel.is) in
+    subst (λ (l : List TypedFunction). slice_get l c.args.kernel ≡ Some kernel) seen
+    (slice_get_read c.as_slice-functions.result.now (length functions) c.args.kernel kernel (ap length (sym seen)) c.requires.exists c.index-functions-kernel.is) in
     let at : slice_get program c.args.kernel ≡ Some (function_node kernel) = slice_get-map function_node functions c.args.kernel ∙ ap (option_map function_node) here in
     let fit : are_fitting kernel.params c.args.bounds ≡ true = sym (ap (λ found. are_fitting (params_of found) c.args.bounds) at) ∙ c.requires.kinds in
     record {
