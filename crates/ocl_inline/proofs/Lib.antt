@@ -4,3 +4,4 @@ pub mod Runs
 pub mod Ranks
 pub mod Rows
 pub mod Onto
+pub mod Parts

@@ -1,10 +1,13 @@
 -- What the code makes of the parts of a program.
-use Rattle.std.specs.Prelude.{ℕ, List, [], ◌∷◌, map, Option, option_map}
+use Rattle.std.specs.Prelude.{ℕ, ◌+◌, List, [], ◌∷◌, map, Option, None, Some, option_map}
+use Rattle.vx_base.specs.declared.types.ParamKind.{ParamKind}
+use Rattle.vx_base.specs.declared.types.ParamKind.TheVariants.{Scalar, Pointer}
 use Rattle.ocl_ast.specs.declared.units.Param.{Param}
 use Rattle.ocl_program.specs.declared.exprs.Argument.{Argument}
 use Rattle.ocl_program.specs.declared.exprs.TypedExpr.{TypedExpr}
 use Rattle.ocl_program.specs.declared.functions.TypedFunction.{TypedFunction}
 use Rattle.ocl_program.specs.declared.stmts.TypedStmt.{TypedStmt}
+use Rattle.ocl_program.specs.Measures.{cut}
 use Rattle.ocl_program.specs.Nodes.{FunctionNode, ArgNode, ValueNode, ArrayNode, arg_nodes}
 use Rattle.ocl_program.specs.Shapes.{argument_node, function_node, node_of, stmt_node, typed_stmts}
 use Rattle.ocl_sem.specs.declared.scopes.Scope.{Scope}
@@ -27,6 +30,15 @@ value_in n program scope value = flat_value (bodies_in n program) (map function_
 abbrev pub args_in : ℕ → List TypedFunction → Scope → ℕ → List Param → ℕ → List Argument → FlatArgs
 args_in n program scope first params k args =
     flat_args (bodies_in n program) (map function_node program) (scope_of scope) first params k (arg_nodes (map argument_node args))
+
+-- the variable of the next scalar parameter behind a parameter of this kind, whose own would be `variable`
+abbrev pub variable_behind_kind : ℕ → ParamKind → ℕ
+variable_behind_kind variable (Scalar elem) = cut (variable + 1)
+variable_behind_kind variable (Pointer space elem readonly) = variable
+
+abbrev pub variable_behind : ℕ → Option Param → ℕ
+variable_behind variable None = variable
+variable_behind variable (Some param) = variable_behind_kind variable param.kind
 
 -- one argument in front of others
 abbrev pub with_argument : Bodies → List FunctionNode → AnyScope → Binding → ArgNode → FlatArgs → FlatArgs

@@ -1,8 +1,8 @@
 //! What stands at a call is the body of the helper that it leads to.
-ghost use Rattle.std.specs.Prelude.{◌≡◌, IfOk, map};
-ghost use Rattle.std.specs.Option.{option_map};
-ghost use Rattle.ocl_inline.specs.Expanding.{args_in, argument_in, call_in, expr_in, stmt_in, stmts_in, value_in};
-ghost use Rattle.ocl_inline.specs.Expansion.{binding_as as binding_as_of, binding_at};
+ghost use Rattle.std.specs.Prelude.{◌≡◌, IfOk};
+ghost use Rattle.std.specs.Option.{option_copied, option_map};
+ghost use Rattle.ocl_inline.specs.Expanding.{args_in, argument_in, call_in, expr_in, stmt_in, stmts_in, value_in, variable_behind as variable_behind_of, variable_behind_kind as variable_behind_kind_of};
+ghost use Rattle.ocl_inline.specs.Expansion.{binding_as as binding_as_of, binding_by};
 ghost use Rattle.ocl_inline.specs.Shapes.{expr_of, flat_arguments, flat_trees, stmt_of, with_arg};
 ghost use Rattle.ocl_inline.specs.Trees.{FlatArgs, written};
 
@@ -11,7 +11,6 @@ use crate::trees::{Binding, FlatArgument, FlatExpr, FlatStmt};
 use ocl_ast::Param;
 use ocl_program::{Argument, TypedExpr, TypedFunction, TypedStmt};
 use ocl_sem::scopes::Scope;
-use ocl_sem::unfold::variable_at;
 use std::alloc::{AllocError, Global};
 use vx_base::ParamKind;
 
@@ -120,14 +119,20 @@ fn expand_call<'a>(
     let inner = scope.inner(alloc, callee, args)?;
     let body = match levels.checked_sub(1) {
         Some(less) => {
-            expand_stmts(alloc, program, &inner, less, callee.function.body.as_slice())?
+            expand_stmts(
+                alloc,
+                program,
+                &inner,
+                less,
+                callee.function.body.as_slice(),
+            )?
         }
         None => Vec::new(alloc),
     };
     Ok(nodes::call(bound, body))
 }
 
-/// The arguments of a call.
+/// The arguments of a call, whose scalar parameters are variables from this one on.
 #[cycle(expand)]
 fn expand_args<'a>(
     alloc: Global,
@@ -141,9 +146,12 @@ fn expand_args<'a>(
     ensures { IfOk result (λ flat. flat_arguments flat.items ≡ args_in levels program.now scope.now first params.now 0 args.now) }
 {
     let mut flat = Vec::new(alloc);
+    let mut variable = first;
     for k in 0..args.len() {
-        let bound = binding(first, params, k);
+        let param = params.get(k);
+        let bound = binding(variable, param);
         flat.push(expand_arg(alloc, program, scope, levels, bound, &args[k])?)?;
+        variable = variable_behind(variable, param);
     }
     Ok(flat)
 }
@@ -221,7 +229,14 @@ fn expand_stmt<'a>(
             value,
         } => {
             let value = expand_value(alloc, program, scope, levels, value)?;
-            nodes::set_variable(alloc, scope.variable(*variable), *elem, *op, *unsigned, value)
+            nodes::set_variable(
+                alloc,
+                scope.variable(*variable),
+                *elem,
+                *op,
+                *unsigned,
+                value,
+            )
         }
         TypedStmt::SetElement {
             array,
@@ -322,12 +337,11 @@ pub fn expand_stmts<'a>(
     Ok(flat)
 }
 
-/// What is done with argument k, where the first scalar parameter is this variable.
-fn binding(first: u32, params: &[Param], k: usize) -> Binding
-    ensures { result ≡ binding_at first params.now k }
+/// What is done with the argument for a parameter, whose variable is this one where it is a scalar.
+fn binding(variable: u32, param: Option<&Param>) -> Binding
+    ensures { result ≡ binding_by variable (option_copied param.entry) }
 {
-    let variable = variable_at(first, params, k);
-    match params.get(k) {
+    match param {
         Some(param) => binding_as(variable, param.kind),
         None => Binding::Dropped,
     }
@@ -340,5 +354,25 @@ fn binding_as(variable: u32, kind: ParamKind) -> Binding
     match kind {
         ParamKind::Scalar(elem) => Binding::Variable(variable, elem),
         ParamKind::Pointer { .. } => Binding::Dropped,
+    }
+}
+
+/// The variable of the next scalar parameter behind a parameter.
+fn variable_behind(variable: u32, param: Option<&Param>) -> u32
+    ensures { result ≡ variable_behind_of variable (option_copied param.entry) }
+{
+    match param {
+        Some(param) => variable_behind_kind(variable, param.kind),
+        None => variable,
+    }
+}
+
+/// The same behind a parameter of this kind.
+fn variable_behind_kind(variable: u32, kind: ParamKind) -> u32
+    ensures { result ≡ variable_behind_kind_of variable kind }
+{
+    match kind {
+        ParamKind::Scalar(_) => variable.saturating_add(1),
+        ParamKind::Pointer { .. } => variable,
     }
 }
