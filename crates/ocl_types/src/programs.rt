@@ -20,7 +20,7 @@ pub struct Program {
     pub totals: Vec<Totals>,
     ghost few: { length functions.items < 2 ^ 32 },
     ghost measured: { AreTotals (map function_node functions.items) (length functions.items) totals.items },
-    ghost typed: { IsProgram (map function_node functions.items) },
+    ghost typed: { ∥ IsProgram (map function_node functions.items) ∥₁ },
 }
 
 /// Whether a function is a kernel with a name.

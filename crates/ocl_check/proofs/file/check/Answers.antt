@@ -51,10 +51,10 @@ invariant_of-result c =
     record {
       few = few;
       measured = placed_measured functions placed totals put are;
-      typed = record {
+      typed = ∣ record {
         functions = fs;
         typed = file_typed fs (map function_node functions) (map function_node placed) typed within (put ∙ all_placed_same (map function_node functions) totals are);
-      };
+      } ∣₁;
     }
 
 pub returns : goal.returns

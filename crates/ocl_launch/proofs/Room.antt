@@ -1,0 +1,64 @@
+-- The arrays of a kernel of a program, whose parameters stand for what fits them, have room.
+use Rattle.std.proofs.Common.{◌≡◌, ℕ, zero, suc, ◌*◌, ◌^◌, ◌<◌, ◌≤◌, nat_le, ◌==◌, Bool, true, false, ◌&&◌, List, [], ◌∷◌, length, map, zip, Option, None, Some, refl, ap, sym, ◌∙◌, subst, absurd, arith}
+use Rattle.std.proofs.lemmas.Bool.{and_parts, leb-true}
+use Rattle.std.specs.Prelude.{slice_get}
+use Rattle.std.specs.List.{list_all}
+use Rattle.vx_base.specs.Values.{elem_bytes}
+use Rattle.vx_base.specs.declared.types.Elem.{Elem}
+use Rattle.vx_base.specs.declared.types.Elem.TheVariants.{Char, Uchar, Short, Ushort, Int, Uint}
+use Rattle.vx_base.specs.declared.types.ParamKind.{ParamKind}
+use Rattle.vx_base.specs.declared.types.ParamKind.TheVariants.{Scalar, Pointer}
+use Rattle.item_acts.specs.declared.acts.Bound.{Bound}
+use Rattle.item_acts.specs.declared.acts.Bound.TheVariants.{Value, Array}
+use Rattle.ocl_ast.specs.declared.units.Param.{Param}
+use Rattle.ocl_program.specs.declared.exprs.ArrayRef.{ArrayRef}
+use Rattle.ocl_program.specs.declared.exprs.ArrayRef.TheVariants.{Parameter, Declared}
+use Rattle.ocl_program.specs.declared.functions.LocalArray.{LocalArray}
+use Rattle.ocl_program.specs.Nodes.{FunctionNode}
+use Rattle.ocl_sem.specs.declared.settings.ItemArray.{ItemArray}
+use Rattle.ocl_sem.specs.Launched.{IsRoomy}
+use Rattle.ocl_sem.specs.Settings.{array_bound, bound_array, declared_array}
+use Rattle.ocl_types.specs.Functions.{IsProgram}
+use Rattle.ocl_launch.specs.Fitting.{has_room, is_fitting, are_fitting}
+
+-- an array ends within 2 ^ 32 bytes
+abbrev HasRoom : ItemArray → Type 0
+HasRoom array = array.count * elem_bytes array.elem ≤ 2 ^ 32
+
+-- few elements have room, whatever their type
+few_have_room : (elem : Elem) (count : ℕ) → count ≤ 262144 → count * elem_bytes elem ≤ 2 ^ 32
+few_have_room Char count few = omega arith
+few_have_room Uchar count few = omega arith
+few_have_room Short count few = omega arith
+few_have_room Ushort count few = omega arith
+few_have_room Int count few = omega arith
+few_have_room Uint count few = omega arith
+
+declared_room : (params : List Param) (k : ℕ) (array : Option LocalArray) → ((a : LocalArray) → array ≡ Some a → a.count ≤ 262144) → HasRoom (declared_array params k array)
+declared_room params k None few = omega arith
+declared_room params k (Some a) few = few_have_room a.elem a.count (few a refl)
+
+fitting_room : (kind : ParamKind) (bound : Bound) → is_fitting kind bound ≡ true → HasRoom (bound_array kind bound)
+fitting_room (Scalar elem) (Value value) fits = omega arith
+fitting_room (Scalar elem) (Array place count) fits = omega arith
+fitting_room (Pointer space elem readonly) (Value value) fits = omega arith
+fitting_room (Pointer space elem readonly) (Array place count) fits = leb-true (count * elem_bytes elem) (2 ^ 32) fits
+
+no_bound : (param : Option Param) → HasRoom (array_bound param None)
+no_bound None = omega arith
+no_bound (Some p) = omega arith
+
+abbrev AllFit : List Param → List Bound → Type 0
+AllFit params bounds = list_all (λ (pair : Param × Bound). is_fitting pair.0.kind pair.1) (zip params bounds) ≡ true
+
+bound_room : (params : List Param) (bounds : List Bound) (k : ℕ) → AllFit params bounds → HasRoom (array_bound (slice_get params k) (slice_get bounds k))
+bound_room [] bounds k fit = omega arith
+bound_room (p ∷ ps) [] k fit = no_bound (slice_get (p ∷ ps) k)
+bound_room (p ∷ ps) (b ∷ bs) zero fit = fitting_room p.kind b (and_parts (is_fitting p.kind b) (list_all (λ (pair : Param × Bound). is_fitting pair.0.kind pair.1) (zip ps bs)) fit).0
+bound_room (p ∷ ps) (b ∷ bs) (suc k) fit = bound_room ps bs k (and_parts (is_fitting p.kind b) (list_all (λ (pair : Param × Bound). is_fitting pair.0.kind pair.1) (zip ps bs)) fit).1
+
+-- the arrays of a kernel whose parameters stand for what fits them, and whose own arrays are small
+pub room_of : (kernel : FunctionNode) (bounds : List Bound) → are_fitting kernel.params bounds ≡ true → ((i : ℕ) (array : LocalArray) → slice_get kernel.arrays i ≡ Some array → array.count ≤ 262144)
+    → IsRoomy kernel bounds
+room_of kernel bounds fit few (Parameter k) = bound_room kernel.params bounds k (and_parts (length kernel.params == length bounds) _ fit).1
+room_of kernel bounds fit few (Declared k) = declared_room kernel.params k (slice_get kernel.arrays k) (few k)

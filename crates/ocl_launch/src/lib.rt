@@ -1,0 +1,11 @@
+//! Launches of the kernels of a program: what the parameters of a kernel may stand for, and the work-items of a launch.
+//!
+//! Read first `specs/Fitting.antt`, then [`launches`]. What a work-item does is said in `ocl_sem`.
+#![tactic(auto)]
+
+pub mod launches;
+
+pub use launches::{fits, items_of};
+
+#[cfg(test)]
+mod tests;
