@@ -1,0 +1,6 @@
+pub mod Mapped
+pub mod Lockstep
+pub mod Runs
+pub mod Ranks
+pub mod Rows
+pub mod Onto

@@ -1,0 +1,14 @@
+//! Laws of flat kernels, each as a contract. The functions themselves do nothing.
+ghost use Rattle.ocl_inline.specs.Laws.{AllExpanded, AsksAlike, SpendsAlike, StepsAlike};
+
+/// Each step of the flat kernel is the source's, where the bodies at its calls are the expanded ones.
+pub fn flat_steps_are_the_sources()
+    ensures steps { StepsAlike }
+    ensures asks { AsksAlike }
+    ensures spends { SpendsAlike }
+{}
+
+/// Where no function reaches a call of itself, as many levels of calls as there are functions expand all of them.
+pub fn calls_are_expanded()
+    ensures { AllExpanded }
+{}
