@@ -4,3 +4,7 @@ pub mod Runs
 pub mod Ranks
 pub mod Rows
 pub mod Onto
+pub mod Counts
+pub mod Tables
+pub mod SitesHeld
+pub mod SiteNumbers

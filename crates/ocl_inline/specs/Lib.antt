@@ -6,3 +6,7 @@ pub mod Laws
 pub mod Shapes
 pub mod Expanding
 pub mod Sizes
+pub mod Formed
+pub mod FlatNumbers
+pub mod FlatMeasures
+pub mod FlatLaws
