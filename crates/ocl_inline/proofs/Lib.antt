@@ -8,3 +8,5 @@ pub mod Counts
 pub mod Tables
 pub mod SitesHeld
 pub mod SiteNumbers
+pub mod VariablesBelow
+pub mod VariableNumbers
