@@ -10,3 +10,9 @@ pub mod SitesHeld
 pub mod SiteNumbers
 pub mod VariablesBelow
 pub mod VariableNumbers
+pub mod CallMeasures
+pub mod NodesKept
+pub mod DepthKept
+pub mod ControlKept
+pub mod CallsReached
+pub mod MeasuresAlike
