@@ -1,10 +1,10 @@
 -- What a measure of the source with its calls expanded has at a call, and what follows for a body with any levels of calls.
-use Rattle.std.proofs.Common.{◌≡◌, refl, sym, ap, ◌∙◌, ℕ, zero, suc, ◌+◌, List, [], ◌∷◌, map, option_map, slice_get, Option, None, Some, arith}
+use Rattle.std.proofs.Common.{◌≡◌, refl, sym, ap, ◌∙◌, ℕ, zero, suc, List, option_map, slice_get, Option, None, Some}
 use Rattle.std.proofs.lemmas.Option.{slice_get-map}
 use Rattle.ocl_program.specs.declared.functions.CallSite.{CallSite}
-use Rattle.ocl_program.specs.Measures.{at_call, callees, expanded as measured_by, of_function, where_some}
+use Rattle.ocl_program.specs.Measures.{at_call, expanded as measured_by, of_function, where_some}
 use Rattle.ocl_program.specs.Nodes.{ArgNodes, FunctionNode, StmtNodes}
-use Rattle.ocl_sem.specs.Source.{Scope, callee_of, scope_at, site_of}
+use Rattle.ocl_sem.specs.Source.{Scope, scope_at, site_of}
 use Rattle.ocl_inline.specs.Expansion.{Bodies, expanded, flat_stmts}
 use Rattle.ocl_inline.specs.Trees.{FlatStmts, NoFlats}
 
@@ -42,7 +42,7 @@ nobody source program (suc levels) k e = ap (of_function (by_body source) (measu
 -- where a measure of trees is the measure of their sources, so is it for bodies with any levels of calls
 pub measured_alike : (measure : FlatStmts → ℕ) (source : (ℕ → ℕ) → StmtNodes → ℕ) → measure NoFlats ≡ 0
     → ((bodies : Bodies) (program : List FunctionNode) (scope : Scope) (inner : ℕ → ℕ) → CallsMeasure measure bodies program scope inner → (ss : StmtNodes)
-      → measure (flat_stmts bodies program scope ss) ≡ source inner ss)
+    → measure (flat_stmts bodies program scope ss) ≡ source inner ss)
     → (program : List FunctionNode) (levels k : ℕ) (scope : Scope) → slice_get program k ≡ Some scope.function
     → measure (expanded levels program scope) ≡ measured_by (by_body source) program levels k
 unfolding expanded measured_by

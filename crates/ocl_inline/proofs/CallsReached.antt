@@ -1,5 +1,5 @@
 -- How many calls of a flat tree stand inside one another, by what each call of its source has.
-use Rattle.std.proofs.Common.{◌≡◌, refl, sym, ap, ◌∙◌, ℕ, ◌+◌, max, List, [], ◌∷◌, ◌++◌, map, slice_get, Option, None, Some, arith}
+use Rattle.std.proofs.Common.{◌≡◌, refl, sym, ◌∙◌, ℕ, ◌+◌, max, List, [], ◌∷◌, ◌++◌, map, Option, None, Some, arith}
 use Rattle.ocl_ast.specs.declared.units.Param.{Param}
 use Rattle.ocl_program.specs.declared.functions.CallSite.{CallSite}
 use Rattle.ocl_program.specs.Measures.{greatest}
@@ -69,7 +69,7 @@ mutual
   expr_reaches bodies program scope inner have (ChooseNode unsigned test chosen left_out) = both inner _ _ _ _ (expr_reaches bodies program scope inner have test) (both inner _ _ _ _ (expr_reaches bodies program scope inner have chosen) (expr_reaches bodies program scope inner have left_out))
   expr_reaches bodies program scope inner have (CastNode elem part) = expr_reaches bodies program scope inner have part
   expr_reaches bodies program scope inner have (LoadNode array elem place pos) = expr_reaches bodies program scope inner have place
-  expr_reaches bodies program scope inner have (CallNode call args) = 
+  expr_reaches bodies program scope inner have (CallNode call args) =
       call_reaches bodies program scope inner have call args (site_of scope call) (callee_of program (site_of scope call)) refl refl
       (λ first params. flat_args bodies program scope first params 0 args) (λ first params. args_reach bodies program scope inner have first params 0 args)
   expr_reaches bodies program scope inner have (BuiltinNode which unsigned args) = args_reach bodies program scope inner have 0 [] 0 args
@@ -98,7 +98,7 @@ mutual
   stmt_reaches bodies program scope inner have (IfElseNode test chosen left_out) = both inner _ _ _ _ (expr_reaches bodies program scope inner have test) (both inner _ _ _ _ (stmt_reaches bodies program scope inner have chosen) (stmt_reaches bodies program scope inner have left_out))
   stmt_reaches bodies program scope inner have (WhileNode test body) = both inner _ _ _ _ (expr_reaches bodies program scope inner have test) (stmt_reaches bodies program scope inner have body)
   stmt_reaches bodies program scope inner have (DoNode body test) = both inner _ _ _ _ (stmt_reaches bodies program scope inner have body) (expr_reaches bodies program scope inner have test)
-  stmt_reaches bodies program scope inner have (ForNode first test step body) = 
+  stmt_reaches bodies program scope inner have (ForNode first test step body) =
       both inner _ _ _ _ (stmts_reach bodies program scope inner have first) (
       both inner _ _ _ _ (value_reaches bodies program scope inner have test) (both inner _ _ _ _ (stmts_reach bodies program scope inner have step) (stmt_reaches bodies program scope inner have body)))
   stmt_reaches bodies program scope inner have BreakNode = nothing inner

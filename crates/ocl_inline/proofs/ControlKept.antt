@@ -1,5 +1,5 @@
 -- The depth of control of a flat tree is that of its source with its calls expanded.
-use Rattle.std.proofs.Common.{◌≡◌, refl, sym, ap, ◌∙◌, ℕ, ◌+◌, max, List, [], ◌∷◌, slice_get, Option, None, Some, arith}
+use Rattle.std.proofs.Common.{◌≡◌, refl, ℕ, ◌+◌, max, List, [], Option, None, Some, arith}
 use Rattle.ocl_ast.specs.declared.units.Param.{Param}
 use Rattle.ocl_program.specs.declared.functions.CallSite.{CallSite}
 use Rattle.ocl_program.specs.Measures.{args_control, control, stmt_control, stmts_control, where_some}
@@ -7,18 +7,18 @@ use Rattle.ocl_program.specs.Nodes.{ExprNode, NumberNode, VariableNode, UnaryNod
 use Rattle.ocl_sem.specs.Source.{Scope, scope_at, site_of, callee_of}
 use Rattle.ocl_inline.specs.Expansion.{Bodies, call_flat, flat_expr, flat_args, flat_value, flat_stmt, flat_stmts}
 use Rattle.ocl_inline.specs.FlatMeasures.{flat_args_control, flat_control, flat_expr_control, flat_stmt_control, flat_value_control}
-use Rattle.ocl_inline.specs.Trees.{FlatArgs, FlatStmts}
+use Rattle.ocl_inline.specs.Trees.{FlatArgs}
 use Rattle.ocl_inline.proofs.CallMeasures.{CallsMeasure, alike_two, alike_three, alike_four}
 
 call_control_kept : (bodies : Bodies) (program : List FunctionNode) (scope : Scope) (inner : ℕ → ℕ) → CallsMeasure flat_control bodies program scope inner → (call : ℕ) (args : ArgNodes)
     (site : Option CallSite) (callee : Option FunctionNode) → site_of scope call ≡ site → callee_of program site ≡ callee
     → (bound : ℕ → List Param → FlatArgs) → ((first : ℕ) (params : List Param) → flat_args_control (bound first params) ≡ args_control inner args)
     → flat_expr_control (call_flat bodies scope site callee args bound) ≡ control inner (CallNode call args)
-call_control_kept bodies program scope inner have call args None callee e e' bound same = 
+call_control_kept bodies program scope inner have call args None callee e e' bound same =
     let none : inner call ≡ 0 = have.no_site call e in
     let h : flat_args_control (bound 0 []) ≡ args_control inner args = same 0 [] in
     omega arith
-call_control_kept bodies program scope inner have call args (Some site) None e e' bound same = 
+call_control_kept bodies program scope inner have call args (Some site) None e e' bound same =
     let none : inner call ≡ 0 = have.no_callee call site e e' in
     let h : flat_args_control (bound 0 []) ≡ args_control inner args = same 0 [] in
     omega arith
@@ -34,11 +34,11 @@ mutual
   expr_control_kept bodies program scope inner have (BinaryNode op unsigned left right) = alike_two (λ a b. max a b) (expr_control_kept bodies program scope inner have left) (expr_control_kept bodies program scope inner have right)
   expr_control_kept bodies program scope inner have (BothNode left right) = alike_two (λ a b. max a (b + 1)) (expr_control_kept bodies program scope inner have left) (expr_control_kept bodies program scope inner have right)
   expr_control_kept bodies program scope inner have (EitherNode left right) = alike_two (λ a b. max a (b + 1)) (expr_control_kept bodies program scope inner have left) (expr_control_kept bodies program scope inner have right)
-  expr_control_kept bodies program scope inner have (ChooseNode unsigned test chosen left_out) = 
+  expr_control_kept bodies program scope inner have (ChooseNode unsigned test chosen left_out) =
       alike_three (λ a b c. max a (max b c + 1)) (expr_control_kept bodies program scope inner have test) (expr_control_kept bodies program scope inner have chosen) (expr_control_kept bodies program scope inner have left_out)
   expr_control_kept bodies program scope inner have (CastNode elem part) = expr_control_kept bodies program scope inner have part
   expr_control_kept bodies program scope inner have (LoadNode array elem place pos) = expr_control_kept bodies program scope inner have place
-  expr_control_kept bodies program scope inner have (CallNode call args) = 
+  expr_control_kept bodies program scope inner have (CallNode call args) =
       call_control_kept bodies program scope inner have call args (site_of scope call) (callee_of program (site_of scope call)) refl refl
       (λ first params. flat_args bodies program scope first params 0 args) (λ first params. args_control_kept bodies program scope inner have first params 0 args)
   expr_control_kept bodies program scope inner have (BuiltinNode which unsigned args) = args_control_kept bodies program scope inner have 0 [] 0 args
@@ -61,16 +61,16 @@ mutual
   stmt_control_kept bodies program scope inner have (DeclareNode variable elem value) = value_control_kept bodies program scope inner have value
   stmt_control_kept bodies program scope inner have (LocalArrayNode array count) = expr_control_kept bodies program scope inner have count
   stmt_control_kept bodies program scope inner have (SetVariableNode variable elem op unsigned value) = value_control_kept bodies program scope inner have value
-  stmt_control_kept bodies program scope inner have (SetElementNode array elem place op unsigned value pos) = 
+  stmt_control_kept bodies program scope inner have (SetElementNode array elem place op unsigned value pos) =
       alike_two (λ a b. max a b) (expr_control_kept bodies program scope inner have place) (value_control_kept bodies program scope inner have value)
   stmt_control_kept bodies program scope inner have (CallStmtNode call) = expr_control_kept bodies program scope inner have call
   stmt_control_kept bodies program scope inner have (BarrierNode site) = refl
   stmt_control_kept bodies program scope inner have (IfNode test chosen) = alike_two (λ a b. max a (b + 1)) (expr_control_kept bodies program scope inner have test) (stmt_control_kept bodies program scope inner have chosen)
-  stmt_control_kept bodies program scope inner have (IfElseNode test chosen left_out) = 
+  stmt_control_kept bodies program scope inner have (IfElseNode test chosen left_out) =
       alike_three (λ a b c. max a (max b c + 1)) (expr_control_kept bodies program scope inner have test) (stmt_control_kept bodies program scope inner have chosen) (stmt_control_kept bodies program scope inner have left_out)
   stmt_control_kept bodies program scope inner have (WhileNode test body) = alike_two (λ a b. max a b + 1) (expr_control_kept bodies program scope inner have test) (stmt_control_kept bodies program scope inner have body)
   stmt_control_kept bodies program scope inner have (DoNode body test) = alike_two (λ a b. max a b + 1) (stmt_control_kept bodies program scope inner have body) (expr_control_kept bodies program scope inner have test)
-  stmt_control_kept bodies program scope inner have (ForNode first test step body) = 
+  stmt_control_kept bodies program scope inner have (ForNode first test step body) =
       alike_four (λ a b c d. max a (max b (max c d) + 1)) (stmts_control_kept bodies program scope inner have first) (value_control_kept bodies program scope inner have test)
       (stmts_control_kept bodies program scope inner have step) (stmt_control_kept bodies program scope inner have body)
   stmt_control_kept bodies program scope inner have BreakNode = refl

@@ -1,9 +1,8 @@
 -- How often a number is met in a list, and sums along a list.
-use Rattle.std.proofs.Common.{◌≡◌, refl, sym, ap, ◌∙◌, subst, ℕ, zero, suc, ◌+◌, ◌-◌, ◌<◌, ◌≤◌, ◌==◌, nat_lt, Bool, true, false, if◌then◌else◌, ◌⊎◌, inl, inr, List, [], ◌∷◌, ◌++◌, map, length, slice_get, Option, None, Some, arith, eqb-true, eq-eqb}
+use Rattle.std.proofs.Common.{◌≡◌, refl, sym, ap, ◌∙◌, ℕ, suc, ◌+◌, ◌-◌, ◌<◌, ◌≤◌, ◌==◌, nat_lt, Bool, true, false, if◌then◌else◌, inl, inr, List, [], ◌∷◌, ◌++◌, map, length, slice_get, Some, arith, eqb-true, eq-eqb}
 use Rattle.std.specs.List.{AllByRecursion, IsDistinct, sum}
-use Rattle.std.proofs.lemmas.Bool.{cases_Bool, false≢true, lt-ltb, le-ltb, ltb-true, ltb-false}
+use Rattle.std.proofs.lemmas.Bool.{cases_Bool, lt-ltb, le-ltb, ltb-true}
 use Rattle.std.proofs.lemmas.List.Sums.{sum_by-cons}
-use Rattle.ocl_program.specs.Measures.{where_some}
 use Rattle.ocl_inline.specs.FlatNumbers.{AreDifferent}
 use Rattle.ocl_inline.specs.Formed.{AreBelow, counted_up}
 
@@ -85,22 +84,24 @@ once k = ap (λ (b : Bool). if b then 1 else 0) (eq-eqb k k refl)
 pub are_different : (ks : List ℕ) → ((n : ℕ) → met n ks ≤ 1) → AreDifferent ks
 unfolding IsDistinct
 are_different [] at_most = tt
-are_different (k ∷ ks) at_most =
-    (all_other k ks (let here : one k k ≡ 1 = once k in let all : one k k + met k ks ≤ 1 = at_most k in omega arith),
-     are_different ks (λ n. let all : one n k + met n ks ≤ 1 = at_most n in omega arith))
+are_different (k ∷ ks) at_most = (
+  all_other k ks (let here : one k k ≡ 1 = once k in let all : one k k + met k ks ≤ 1 = at_most k in omega arith),
+  are_different ks (λ n. let all : one n k + met n ks ≤ 1 = at_most n in omega arith),
+)
 
 pub are_below : (bound : ℕ) (ks : List ℕ) → ((n : ℕ) → met n ks ≤ under n bound) → AreBelow bound ks
 are_below bound [] at_most = tt
-are_below bound (k ∷ ks) at_most =
-    (elim (cases_Bool (nat_lt k bound)) [
-      | inl within ↦ ltb-true k bound within
-      | inr beyond ↦
-          let here : one k k ≡ 1 = once k in
-          let all : one k k + met k ks ≤ under k bound = at_most k in
-          let none : under k bound ≡ 0 = ap (λ (b : Bool). if b then 1 else 0) beyond in
-          absurd (omega arith)
-    ],
-    are_below bound ks (λ n. let all : one n k + met n ks ≤ under n bound = at_most n in omega arith))
+are_below bound (k ∷ ks) at_most = (
+  elim (cases_Bool (nat_lt k bound)) [
+    | inl within ↦ ltb-true k bound within
+    | inr beyond ↦
+        let here : one k k ≡ 1 = once k in
+        let all : one k k + met k ks ≤ under k bound = at_most k in
+        let none : under k bound ≡ 0 = ap (λ (b : Bool). if b then 1 else 0) beyond in
+        absurd (omega arith)
+  ],
+  are_below bound ks (λ n. let all : one n k + met n ks ≤ under n bound = at_most n in omega arith),
+)
 
 -- ---- the rows of a table in order
 

@@ -1,17 +1,17 @@
 -- The measures of a flat kernel are those of its function with its calls expanded.
-use Rattle.std.proofs.Common.{◌≡◌, refl, sym, ap, ◌∙◌, subst, ℕ, zero, suc, ◌+◌, ◌<◌, ◌≤◌, List, [], ◌∷◌, map, length, slice_get, Option, None, Some, arith}
+use Rattle.std.proofs.Common.{◌≡◌, refl, sym, ap, ◌∙◌, ℕ, zero, suc, ◌+◌, ◌<◌, List, [], ◌∷◌, map, length, slice_get, None, Some, arith}
 use Rattle.ocl_program.specs.declared.functions.CallSite.{CallSite}
-use Rattle.ocl_program.specs.Measures.{at_call, callees, expanded as measured_by, greatest, measured, of_function, own_calls, own_control, own_depth, own_nodes, stmts_control, stmts_depth, stmts_size, where_some}
-use Rattle.ocl_program.specs.Nodes.{ArgNodes, FunctionNode, StmtNodes}
+use Rattle.ocl_program.specs.Measures.{expanded as measured_by, greatest, measured, of_function, own_calls, stmts_control, stmts_depth, stmts_size, where_some}
+use Rattle.ocl_program.specs.Nodes.{FunctionNode, StmtNodes}
 use Rattle.ocl_sem.specs.Items.{kernel_scope}
-use Rattle.ocl_sem.specs.Source.{Scope, scope_at, site_of}
+use Rattle.ocl_sem.specs.Source.{Scope, scope_at}
 use Rattle.ocl_inline.specs.Expansion.{Bodies, expanded, flat_stmts, kernel_flat}
 use Rattle.ocl_inline.specs.FlatLaws.{MeasuresKept}
 use Rattle.ocl_inline.specs.FlatMeasures.{flat_calls, flat_control, flat_depth, flat_nodes}
-use Rattle.ocl_inline.specs.Formed.{IsFormed, IsSmall, IsSound, Settles, counted_up, stmts_calls}
+use Rattle.ocl_inline.specs.Formed.{IsFormed, IsSmall, IsSound, Settles, stmts_calls}
 use Rattle.ocl_inline.specs.Trees.{FlatStmts, NoFlats}
 use Rattle.ocl_inline.proofs.CallMeasures.{CallsMeasure, by_body, measured_alike}
-use Rattle.ocl_inline.proofs.CallsReached.{Reaches, reaches_fact, stmts_reach, with_call}
+use Rattle.ocl_inline.proofs.CallsReached.{reaches_fact, stmts_reach, with_call}
 use Rattle.ocl_inline.proofs.ControlKept.{stmts_control_kept}
 use Rattle.ocl_inline.proofs.Counts.{rows_from}
 use Rattle.ocl_inline.proofs.DepthKept.{stmts_depth_kept}
@@ -25,7 +25,7 @@ one_level_more own program settles k f e = ap (of_function own (measured own pro
 
 kernel_measured : (measure : FlatStmts → ℕ) (source : (ℕ → ℕ) → StmtNodes → ℕ) → measure NoFlats ≡ 0
     → ((bodies : Bodies) (program : List FunctionNode) (scope : Scope) (inner : ℕ → ℕ) → CallsMeasure measure bodies program scope inner → (ss : StmtNodes)
-      → measure (flat_stmts bodies program scope ss) ≡ source inner ss)
+    → measure (flat_stmts bodies program scope ss) ≡ source inner ss)
     → (program : List FunctionNode) → Settles (by_body source) program → (number : ℕ) (kernel : FunctionNode) → slice_get program number ≡ Some kernel
     → measure (kernel_flat program number kernel).body ≡ measured (by_body source) program number
 unfolding expanded
@@ -55,7 +55,7 @@ rows_reach : (program : List FunctionNode) (f : FunctionNode) (inner : ℕ → �
 rows_reach program f inner formed =
     ap (λ cs. greatest (map (calls_at f inner) cs)) formed.calls
     ∙ ap greatest (rows_from (calls_at f inner) (row_calls inner) 0 f.calls
-      (λ i site e. let same : 0 + i ≡ i = omega arith in ap (calls_at f inner) same ∙ ap (where_some (row_calls inner)) e))
+    (λ i site e. let same : 0 + i ≡ i = omega arith in ap (calls_at f inner) same ∙ ap (where_some (row_calls inner)) e))
     ∙ ap greatest (sym (map_map (λ callee. inner callee + 1) (λ (c : CallSite). c.callee) f.calls))
 
 pub calls_alike : (program : List FunctionNode) → IsSound program → (levels k : ℕ) (scope : Scope) → IsSmall program k → slice_get program k ≡ Some scope.function
@@ -81,7 +81,8 @@ calls_alike program sound (suc levels) k scope small e =
 pub measures_kept : MeasuresKept
 unfolding expanded
 measures_kept program sound number kernel small e = (
-    kernel_measured flat_nodes stmts_size refl stmts_nodes_kept program sound.nodes number kernel e,
-    kernel_measured flat_depth stmts_depth refl stmts_depth_kept program sound.depth number kernel e,
-    kernel_measured flat_control stmts_control refl stmts_control_kept program sound.control number kernel e,
-    calls_alike program sound (suc (length program)) number (kernel_scope kernel) small e ∙ one_level_more own_calls program sound.calls number kernel e)
+  kernel_measured flat_nodes stmts_size refl stmts_nodes_kept program sound.nodes number kernel e,
+  kernel_measured flat_depth stmts_depth refl stmts_depth_kept program sound.depth number kernel e,
+  kernel_measured flat_control stmts_control refl stmts_control_kept program sound.control number kernel e,
+  calls_alike program sound (suc (length program)) number (kernel_scope kernel) small e ∙ one_level_more own_calls program sound.calls number kernel e,
+)

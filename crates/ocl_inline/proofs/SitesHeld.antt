@@ -1,5 +1,5 @@
 -- How often a number is met among the barriers of a flat tree: at most as often as its own barriers and its calls have it.
-use Rattle.std.proofs.Common.{◌≡◌, refl, sym, ap, ◌∙◌, subst, ℕ, zero, suc, ◌+◌, ◌≤◌, List, [], ◌∷◌, ◌++◌, slice_get, Option, None, Some, arith}
+use Rattle.std.proofs.Common.{◌≡◌, refl, ℕ, ◌+◌, ◌≤◌, List, [], ◌∷◌, ◌++◌, slice_get, Option, None, Some, arith}
 use Rattle.ocl_ast.specs.declared.units.Param.{Param}
 use Rattle.ocl_program.specs.declared.functions.CallSite.{CallSite}
 use Rattle.ocl_program.specs.Nodes.{ExprNode, NumberNode, VariableNode, UnaryNode, BinaryNode, BothNode, EitherNode, ChooseNode, CastNode, LoadNode, CallNode, BuiltinNode, ParenNode, ArgNodes, NoArgs, ValueArg, ArrayArg, StmtNode, DeclareNode, LocalArrayNode, SetVariableNode, SetElementNode, CallStmtNode, BarrierNode, IfNode, IfElseNode, WhileNode, DoNode, ForNode, BreakNode, ContinueNode, ReturnNode, BlockNode, EmptyNode, StmtNodes, NoStmts, AndStmt, FunctionNode}
@@ -78,7 +78,7 @@ mutual
   expr_holds own inner n bodies program scope have (ChooseNode unsigned test chosen left_out) = both own inner n _ _ _ _ _ _ (expr_holds own inner n bodies program scope have test) (both own inner n _ _ _ _ _ _ (expr_holds own inner n bodies program scope have chosen) (expr_holds own inner n bodies program scope have left_out))
   expr_holds own inner n bodies program scope have (CastNode elem part) = expr_holds own inner n bodies program scope have part
   expr_holds own inner n bodies program scope have (LoadNode array elem place pos) = expr_holds own inner n bodies program scope have place
-  expr_holds own inner n bodies program scope have (CallNode call args) = 
+  expr_holds own inner n bodies program scope have (CallNode call args) =
       call_holds own inner n bodies program scope have call args (site_of scope call) (callee_of program (site_of scope call)) refl refl
       (λ first params. flat_args bodies program scope first params 0 args) (λ first params. args_hold own inner n bodies program scope have first params 0 args)
   expr_holds own inner n bodies program scope have (BuiltinNode which unsigned args) = args_hold own inner n bodies program scope have 0 [] 0 args
@@ -108,7 +108,7 @@ mutual
   stmt_holds own inner n bodies program scope own_have have (IfElseNode test chosen left_out) = both own inner n _ _ _ _ _ _ (expr_holds own inner n bodies program scope have test) (both own inner n _ _ _ _ _ _ (stmt_holds own inner n bodies program scope own_have have chosen) (stmt_holds own inner n bodies program scope own_have have left_out))
   stmt_holds own inner n bodies program scope own_have have (WhileNode test body) = both own inner n _ _ _ _ _ _ (expr_holds own inner n bodies program scope have test) (stmt_holds own inner n bodies program scope own_have have body)
   stmt_holds own inner n bodies program scope own_have have (DoNode body test) = both_first own inner n _ _ _ _ _ (stmt_holds own inner n bodies program scope own_have have body) (expr_holds own inner n bodies program scope have test)
-  stmt_holds own inner n bodies program scope own_have have (ForNode first test step body) = 
+  stmt_holds own inner n bodies program scope own_have have (ForNode first test step body) =
       both own inner n _ _ _ _ _ _ (stmts_hold own inner n bodies program scope own_have have first) (
       both own inner n _ _ _ _ _ _ (value_holds own inner n bodies program scope have test) (both own inner n _ _ _ _ _ _ (stmts_hold own inner n bodies program scope own_have have step) (stmt_holds own inner n bodies program scope own_have have body)))
   stmt_holds own inner n bodies program scope own_have have BreakNode = nothing own inner n

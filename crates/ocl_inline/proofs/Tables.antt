@@ -1,12 +1,11 @@
 -- The tables of calls: where a call's variables and barriers begin.
-use Rattle.std.proofs.Common.{◌≡◌, refl, sym, ap, ◌∙◌, subst, ℕ, zero, suc, ◌+◌, ◌-◌, ◌^◌, min, ◌<◌, ◌≤◌, List, [], ◌∷◌, map, length, slice_get, Option, None, Some, arith}
-use Rattle.std.specs.List.{sum}
+use Rattle.std.proofs.Common.{◌≡◌, sym, ap, ◌∙◌, subst, ℕ, zero, suc, ◌+◌, ◌≤◌, List, [], ◌∷◌, slice_get, Some, arith}
 use Rattle.ocl_program.specs.declared.functions.CallSite.{CallSite}
 use Rattle.ocl_program.specs.Measures.{callees, cut, measured, own_sites, own_variables}
 use Rattle.ocl_program.specs.Nodes.{FunctionNode}
 use Rattle.ocl_types.specs.Functions.{sites_from}
-use Rattle.ocl_inline.specs.Formed.{IsFormed, IsSmall, IsSound}
-use Rattle.ocl_inline.proofs.Counts.{between, between_both, sum_weight, weight, weight_map}
+use Rattle.ocl_inline.specs.Formed.{IsSmall, IsSound}
+use Rattle.ocl_inline.proofs.Counts.{between, between_both, sum_weight, weight}
 
 pub cut_small : (n : ℕ) → n ≤ 16384 → cut n ≡ n
 cut_small n small = omega arith
@@ -61,15 +60,15 @@ rows_apart variables sites base n v s [] small =
     none ∙ ap (between n (base + s)) (sym ends)
 rows_apart variables sites base n v s (k ∷ ks) small =
     let rest : weight (in_call sites base n) (sites_from variables sites (v + variables k) (s + sites k) ks) ≡ between n (base + (s + sites k)) (base + (s + sites k) + weight sites ks) =
-        rows_apart variables sites base n (v + variables k) (s + sites k) ks (omega arith) in
+    rows_apart variables sites base n (v + variables k) (s + sites k) ks (omega arith) in
     let begins : cut s ≡ s = cut_small s (omega arith) in
     let row : in_call sites base n (record { callee = k; variables = cut v; sites = cut s }) ≡ between n (base + s) (base + (s + sites k)) =
-        ap (λ x. between n (base + x) (base + x + sites k)) begins ∙ ap (between n (base + s)) (omega arith) in
+    ap (λ x. between n (base + x) (base + x + sites k)) begins ∙ ap (between n (base + s)) (omega arith) in
     let ends : base + (s + sites k) + weight sites ks ≡ base + s + (sites k + weight sites ks) = omega arith in
     let all : between n (base + s) (base + (s + sites k)) + between n (base + (s + sites k)) (base + s + (sites k + weight sites ks)) ≡ between n (base + s) (base + s + (sites k + weight sites ks)) =
-        between_both n _ _ _ (omega arith) (omega arith) in
+    between_both n _ _ _ (omega arith) (omega arith) in
     let rest' : weight (in_call sites base n) (sites_from variables sites (v + variables k) (s + sites k) ks) ≡ between n (base + (s + sites k)) (base + s + (sites k + weight sites ks)) =
-        rest ∙ ap (between n (base + (s + sites k))) ends in
+    rest ∙ ap (between n (base + (s + sites k))) ends in
     ap (λ x. x + weight (in_call sites base n) (sites_from variables sites (v + variables k) (s + sites k) ks)) row
     ∙ ap (λ x. between n (base + s) (base + (s + sites k)) + x) rest'
     ∙ all

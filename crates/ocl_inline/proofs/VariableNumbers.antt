@@ -1,21 +1,20 @@
 -- The variables of a flat kernel are below their count.
-use Rattle.std.proofs.Common.{◌≡◌, refl, sym, ap, ◌∙◌, subst, ℕ, zero, suc, ◌+◌, ◌-◌, ◌^◌, min, ◌<◌, ◌≤◌, Bool, true, false, if◌then◌else◌, List, [], ◌∷◌, map, length, slice_get, get_or, take, count_by, Option, None, Some, arith}
+use Rattle.std.proofs.Common.{◌≡◌, refl, ap, ◌∙◌, ℕ, zero, suc, ◌+◌, ◌<◌, ◌≤◌, Bool, true, if◌then◌else◌, List, length, slice_get, get_or, take, count_by, Option, None, Some, arith}
 use Rattle.std.proofs.lemmas.List.Sums.{sum_by_more_le}
 use Rattle.std.proofs.lemmas.Option.{get_or_from_slice_get, slice_get_within}
 use Rattle.vx_base.specs.declared.types.ParamKind.{ParamKind}
 use Rattle.vx_base.specs.declared.types.ParamKind.TheVariants.{Scalar, Pointer}
 use Rattle.ocl_ast.specs.declared.units.Param.{Param}
-use Rattle.ocl_program.specs.declared.functions.CallSite.{CallSite}
 use Rattle.ocl_program.specs.Measures.{callees, cut, measured, own_sites, own_variables}
-use Rattle.ocl_program.specs.Nodes.{ArgNodes, FunctionNode}
+use Rattle.ocl_program.specs.Nodes.{FunctionNode}
 use Rattle.ocl_sem.specs.Items.{kernel_scope}
-use Rattle.ocl_sem.specs.Source.{Scope, is_scalar, is_scalar_kind, scope_at, site_of, variable_in}
-use Rattle.ocl_inline.specs.Expansion.{Bodies, binding_as, binding_at, binding_by, expanded, flat_stmts, kernel_flat}
+use Rattle.ocl_sem.specs.Source.{Scope, is_scalar, is_scalar_kind, scope_at}
+use Rattle.ocl_inline.specs.Expansion.{binding_as, binding_by, expanded, flat_stmts}
 use Rattle.ocl_inline.specs.FlatLaws.{VariablesAreBelow}
 use Rattle.ocl_inline.specs.FlatNumbers.{bound_variables, flat_variables}
-use Rattle.ocl_inline.specs.Formed.{AreBelow, IsFormed, IsSmall, IsSound, stmts_variables}
+use Rattle.ocl_inline.specs.Formed.{AreBelow, IsSmall, IsSound, stmts_variables}
 use Rattle.ocl_inline.proofs.Counts.{sum_weight, weight}
-use Rattle.ocl_inline.proofs.Tables.{IsWithin, call_within, cut_small}
+use Rattle.ocl_inline.proofs.Tables.{IsWithin, call_within}
 use Rattle.ocl_inline.proofs.VariablesBelow.{BoundBelow, CallsBelow, OwnBelow, moves_fact, stmts_below}
 
 abbrev as_one : Bool → ℕ
@@ -28,7 +27,7 @@ scalar_counts params k param e scalar =
     let below : k < length params = slice_get_within params k param e in
     let there : get_or params k param ≡ param = get_or_from_slice_get params k param param e in
     let within : count_by is_scalar (take k params) + as_one (is_scalar (get_or params k param)) ≤ count_by is_scalar params =
-        sum_by_more_le (λ (p : Param). as_one (is_scalar p)) params k param below in
+    sum_by_more_le (λ (p : Param). as_one (is_scalar p)) params k param below in
     let here : as_one (is_scalar (get_or params k param)) ≡ as_one true = ap (λ (p : Param). as_one (is_scalar p)) there ∙ ap as_one scalar in
     omega arith
 
@@ -64,13 +63,14 @@ variables_at program sound to (suc levels) k scope small e room =
     let own_room : f.variables ≤ V k = own_within program sound k f e in
     let own : OwnBelow f.variables to scope = λ v below. omega arith in
     let calls : CallsBelow to (expanded levels program) program scope = λ call args site callee e' e''.
-        let within : IsWithin V (measured own_sites program) (V k) (measured own_sites program k) site = call_within program sound k f small e call site e' in
-        let more : site.variables + V site.callee ≤ V k = within.variables in
-        let small' : IsSmall program site.callee = sound.callees k call f site small e e' in
-        let its_own : callee.variables ≤ V site.callee = own_within program sound site.callee callee e'' in
-        let scalars : count_by is_scalar callee.params ≤ callee.variables = (sound.formed site.callee callee small' e'').scalars in
-        (variables_at program sound to levels site.callee (scope_at scope site callee args) small' e'' (omega arith),
-         bound_below to (cut (scope.variables + site.variables)) callee.params (omega arith)) in
+    let within : IsWithin V (measured own_sites program) (V k) (measured own_sites program k) site = call_within program sound k f small e call site e' in
+    let more : site.variables + V site.callee ≤ V k = within.variables in
+    let small' : IsSmall program site.callee = sound.callees k call f site small e e' in
+    let its_own : callee.variables ≤ V site.callee = own_within program sound site.callee callee e'' in
+    let scalars : count_by is_scalar callee.params ≤ callee.variables = (sound.formed site.callee callee small' e'').scalars in (
+      variables_at program sound to levels site.callee (scope_at scope site callee args) small' e'' (omega arith),
+      bound_below to (cut (scope.variables + site.variables)) callee.params (omega arith),
+    ) in
     moves_fact f.variables to (stmts_variables f.body) (flat_variables (flat_stmts (expanded levels program) program scope f.body))
     (stmts_below f.variables to (expanded levels program) program scope own calls f.body)
     (sound.formed k f small e).variables

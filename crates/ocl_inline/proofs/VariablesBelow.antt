@@ -91,7 +91,7 @@ mutual
   expr_below from to bodies program scope own below (ChooseNode unsigned test chosen left_out) = both from to _ _ _ _ (expr_below from to bodies program scope own below test) (both from to _ _ _ _ (expr_below from to bodies program scope own below chosen) (expr_below from to bodies program scope own below left_out))
   expr_below from to bodies program scope own below (CastNode elem part) = expr_below from to bodies program scope own below part
   expr_below from to bodies program scope own below (LoadNode array elem place pos) = expr_below from to bodies program scope own below place
-  expr_below from to bodies program scope own below (CallNode call args) = 
+  expr_below from to bodies program scope own below (CallNode call args) =
       call_below from to bodies program scope below call args (site_of scope call) (callee_of program (site_of scope call)) refl refl
       (λ first params. flat_args bodies program scope first params 0 args) (λ first params bound. args_below from to bodies program scope own below first params bound 0 args)
   expr_below from to bodies program scope own below (BuiltinNode which unsigned args) = args_below from to bodies program scope own below 0 [] (none_bound to 0) 0 args
@@ -122,7 +122,7 @@ mutual
   stmt_below from to bodies program scope own below (IfElseNode test chosen left_out) = both from to _ _ _ _ (expr_below from to bodies program scope own below test) (both from to _ _ _ _ (stmt_below from to bodies program scope own below chosen) (stmt_below from to bodies program scope own below left_out))
   stmt_below from to bodies program scope own below (WhileNode test body) = both from to _ _ _ _ (expr_below from to bodies program scope own below test) (stmt_below from to bodies program scope own below body)
   stmt_below from to bodies program scope own below (DoNode body test) = both from to _ _ _ _ (stmt_below from to bodies program scope own below body) (expr_below from to bodies program scope own below test)
-  stmt_below from to bodies program scope own below (ForNode first test step body) = 
+  stmt_below from to bodies program scope own below (ForNode first test step body) =
       both from to _ _ _ _ (stmts_below from to bodies program scope own below first) (
       both from to _ _ _ _ (value_below from to bodies program scope own below test) (both from to _ _ _ _ (stmts_below from to bodies program scope own below step) (stmt_below from to bodies program scope own below body)))
   stmt_below from to bodies program scope own below BreakNode = nothing from to

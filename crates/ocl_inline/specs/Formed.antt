@@ -1,5 +1,5 @@
 -- What stands in the body of a function, in the order of the text, and what the functions of a program have in common.
-use Rattle.std.specs.Prelude.{◌≡◌, ℕ, zero, suc, ◌+◌, ◌<◌, ◌≤◌, List, [], ◌∷◌, ◌++◌, length, count_by, slice_get, Option, None, Some}
+use Rattle.std.specs.Prelude.{◌≡◌, ℕ, ◌<◌, ◌≤◌, List, [], ◌∷◌, ◌++◌, length, count_by, slice_get, Option, None, Some}
 use Rattle.std.specs.List.{range_with_len}
 use Rattle.ocl_program.specs.declared.functions.CallSite.{CallSite}
 use Rattle.ocl_program.specs.Measures.{callees, measured, own_calls, own_control, own_depth, own_nodes, own_sites, own_variables}
