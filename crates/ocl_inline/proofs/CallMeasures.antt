@@ -25,10 +25,10 @@ pub record CallsMeasure (measure : FlatStmts → ℕ) (bodies : Bodies) (program
   pub no_site : (call : ℕ) → site_of scope call ≡ None → inner call ≡ 0
 
 -- what stands at a call, by the row of the table
-pub at_row : (f : FunctionNode) (inner : ℕ → ℕ) (call : ℕ) (site : Option CallSite) → slice_get f.calls call ≡ site
+pub call_by_row : (f : FunctionNode) (inner : ℕ → ℕ) (call : ℕ) (site : Option CallSite) → slice_get f.calls call ≡ site
     → at_call f inner call ≡ where_some (λ (c : CallSite). inner c.callee) site
-at_row f inner call None e = ap (where_some inner) (slice_get-map (λ (c : CallSite). c.callee) f.calls call ∙ ap (option_map (λ (c : CallSite). c.callee)) e)
-at_row f inner call (Some site) e = ap (where_some inner) (slice_get-map (λ (c : CallSite). c.callee) f.calls call ∙ ap (option_map (λ (c : CallSite). c.callee)) e)
+call_by_row f inner call None e = ap (where_some inner) (slice_get-map (λ (c : CallSite). c.callee) f.calls call ∙ ap (option_map (λ (c : CallSite). c.callee)) e)
+call_by_row f inner call (Some site) e = ap (where_some inner) (slice_get-map (λ (c : CallSite). c.callee) f.calls call ∙ ap (option_map (λ (c : CallSite). c.callee)) e)
 
 -- a measure of a body by what stands at its calls
 abbrev pub by_body : ((ℕ → ℕ) → StmtNodes → ℕ) → FunctionNode → (ℕ → ℕ) → ℕ
@@ -52,9 +52,9 @@ measured_alike measure source none kept program (suc levels) k scope e =
     let inner : ℕ → ℕ = measured_by (by_body source) program levels in
     let have : CallsMeasure measure (expanded levels program) program scope (at_call f inner) = record {
       body = λ call args site callee e' e''.
-          measured_alike measure source none kept program levels site.callee (scope_at scope site callee args) e'' ∙ sym (at_row f inner call (Some site) e');
-      no_callee = λ call site e' e''. at_row f inner call (Some site) e' ∙ nobody source program levels site.callee e'';
-      no_site = λ call e'. at_row f inner call None e';
+          measured_alike measure source none kept program levels site.callee (scope_at scope site callee args) e'' ∙ sym (call_by_row f inner call (Some site) e');
+      no_callee = λ call site e' e''. call_by_row f inner call (Some site) e' ∙ nobody source program levels site.callee e'';
+      no_site = λ call e'. call_by_row f inner call None e';
     } in
     kept (expanded levels program) program scope (at_call f inner) have f.body
     ∙ sym (ap (of_function (by_body source) inner) e)

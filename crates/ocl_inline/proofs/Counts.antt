@@ -3,6 +3,7 @@ use Rattle.std.proofs.Common.{◌≡◌, refl, sym, ap, ◌∙◌, ℕ, suc, ◌
 use Rattle.std.specs.List.{AllByRecursion, IsDistinct, sum}
 use Rattle.std.proofs.lemmas.Bool.{cases_Bool, lt-ltb, le-ltb, ltb-true}
 use Rattle.std.proofs.lemmas.List.Sums.{sum_by-cons}
+use Rattle.ocl_program.specs.Measures.{where_some}
 use Rattle.ocl_inline.specs.FlatNumbers.{AreDifferent}
 use Rattle.ocl_inline.specs.Formed.{AreBelow, counted_up}
 
@@ -113,6 +114,14 @@ rows_from f g k (x ∷ xs) same =
     let here : f k ≡ g x = ap f (sym first) ∙ same 0 x refl in
     ap (λ y. y ∷ map f (counted_up (k + 1) (length xs))) here
     ∙ ap (λ ys. g x ∷ ys) (rows_from f g (k + 1) xs (λ i y e. let next : (k + 1) + i ≡ k + suc i = omega arith in ap f next ∙ same (suc i) y e))
+
+-- what the row at a place of the table has
+abbrev pub by_row : {A : Type 0} → List A → (A → ℕ) → ℕ → ℕ
+by_row rows inner k = where_some inner (slice_get rows k)
+
+pub rows_in_order : {A : Type 0} (rows : List A) (inner : A → ℕ) → map (by_row rows inner) (counted_up 0 (length rows)) ≡ map inner rows
+rows_in_order rows inner =
+    rows_from (by_row rows inner) inner 0 rows (λ i x e. let same : 0 + i ≡ i = omega arith in ap (by_row rows inner) same ∙ ap (where_some inner) e)
 
 pub weight_map : {A B : Type 0} (w : B → ℕ) (f : A → B) (xs : List A) → weight w (map f xs) ≡ weight (λ x. w (f x)) xs
 weight_map w f [] = refl

@@ -16,3 +16,4 @@ pub mod DepthKept
 pub mod ControlKept
 pub mod CallsReached
 pub mod MeasuresAlike
+pub mod WorkedFlat

@@ -13,7 +13,7 @@ use Rattle.ocl_inline.specs.Trees.{FlatStmts, NoFlats}
 use Rattle.ocl_inline.proofs.CallMeasures.{CallsMeasure, by_body, measured_alike}
 use Rattle.ocl_inline.proofs.CallsReached.{reaches_fact, stmts_reach, with_call}
 use Rattle.ocl_inline.proofs.ControlKept.{stmts_control_kept}
-use Rattle.ocl_inline.proofs.Counts.{rows_from}
+use Rattle.ocl_inline.proofs.Counts.{by_row, rows_in_order}
 use Rattle.ocl_inline.proofs.DepthKept.{stmts_depth_kept}
 use Rattle.ocl_inline.proofs.NodesKept.{stmts_nodes_kept}
 
@@ -48,14 +48,11 @@ past_the_end (x ∷ xs) (suc k) below e = past_the_end xs k (omega arith) e
 abbrev row_calls : (ℕ → ℕ) → CallSite → ℕ
 row_calls inner site = inner site.callee + 1
 
-abbrev calls_at : FunctionNode → (ℕ → ℕ) → ℕ → ℕ
-calls_at f inner call = where_some (row_calls inner) (slice_get f.calls call)
-
-rows_reach : (program : List FunctionNode) (f : FunctionNode) (inner : ℕ → ℕ) → IsFormed program f → greatest (map (calls_at f inner) (stmts_calls f.body)) ≡ own_calls f inner
+rows_reach : (program : List FunctionNode) (f : FunctionNode) (inner : ℕ → ℕ) → IsFormed program f
+    → greatest (map (by_row f.calls (row_calls inner)) (stmts_calls f.body)) ≡ own_calls f inner
 rows_reach program f inner formed =
-    ap (λ cs. greatest (map (calls_at f inner) cs)) formed.calls
-    ∙ ap greatest (rows_from (calls_at f inner) (row_calls inner) 0 f.calls
-    (λ i site e. let same : 0 + i ≡ i = omega arith in ap (calls_at f inner) same ∙ ap (where_some (row_calls inner)) e))
+    ap (λ cs. greatest (map (by_row f.calls (row_calls inner)) cs)) formed.calls
+    ∙ ap greatest (rows_in_order f.calls (row_calls inner))
     ∙ ap greatest (sym (map_map (λ callee. inner callee + 1) (λ (c : CallSite). c.callee) f.calls))
 
 pub calls_alike : (program : List FunctionNode) → IsSound program → (levels k : ℕ) (scope : Scope) → IsSmall program k → slice_get program k ≡ Some scope.function
@@ -66,15 +63,15 @@ calls_alike program sound (suc levels) k scope small e =
     let f : FunctionNode = scope.function in
     let inner : ℕ → ℕ = measured_by own_calls program levels in
     let formed : IsFormed program f = sound.formed k f small e in
-    let have : CallsMeasure with_call (expanded levels program) program scope (calls_at f inner) = record {
+    let have : CallsMeasure with_call (expanded levels program) program scope (by_row f.calls (row_calls inner)) = record {
       body = λ call args site callee e' e''.
           ap (λ n. n + 1) (calls_alike program sound levels site.callee (scope_at scope site callee args) (sound.callees k call f site small e e') e'')
           ∙ sym (ap (where_some (row_calls inner)) e');
       no_callee = λ call site e' e''. absurd (past_the_end program site.callee (formed.callees call site e') e'');
       no_site = λ call e'. ap (where_some (row_calls inner)) e';
     } in
-    reaches_fact (calls_at f inner) (flat_calls (flat_stmts (expanded levels program) program scope f.body)) (stmts_calls f.body)
-    (stmts_reach (expanded levels program) program scope (calls_at f inner) have f.body)
+    reaches_fact (by_row f.calls (row_calls inner)) (flat_calls (flat_stmts (expanded levels program) program scope f.body)) (stmts_calls f.body)
+    (stmts_reach (expanded levels program) program scope (by_row f.calls (row_calls inner)) have f.body)
     ∙ rows_reach program f inner formed
     ∙ sym (ap (of_function own_calls inner) e)
 

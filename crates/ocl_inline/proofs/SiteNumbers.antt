@@ -9,7 +9,7 @@ use Rattle.ocl_inline.specs.Expansion.{expanded, flat_stmts, kernel_flat}
 use Rattle.ocl_inline.specs.FlatLaws.{SitesDiffer}
 use Rattle.ocl_inline.specs.FlatNumbers.{flat_sites}
 use Rattle.ocl_inline.specs.Formed.{IsFormed, IsSmall, IsSound, counted_up, stmts_calls, stmts_sites}
-use Rattle.ocl_inline.proofs.Counts.{are_below, are_different, between, between_both, met, one, one_between, rows_from, sum_weight, under, under_one, weight, weight_map}
+use Rattle.ocl_inline.proofs.Counts.{are_below, are_different, between, between_both, by_row, met, one, one_between, rows_in_order, sum_weight, under, under_one, weight, weight_map}
 use Rattle.ocl_inline.proofs.SitesHeld.{CallsHave, holds_fact, stmts_hold}
 use Rattle.ocl_inline.proofs.Tables.{IsWithin, call_within, cut_small, in_call, rows_apart}
 
@@ -28,21 +28,15 @@ own_apart n base k (suc m) small =
     ap (λ x. between n x (base + (k + 1) + m)) begins ∙ ap (between n (base + k + 1)) ends in
     omega arith
 
--- a call has the barriers of its row
-abbrev pub at_row : List CallSite → (CallSite → ℕ) → ℕ → ℕ
-at_row rows inner call = where_some inner (slice_get rows call)
-
-pub rows_weigh : (rows : List CallSite) (inner : CallSite → ℕ) → weight (at_row rows inner) (counted_up 0 (length rows)) ≡ weight inner rows
+rows_weigh : (rows : List CallSite) (inner : CallSite → ℕ) → weight (by_row rows inner) (counted_up 0 (length rows)) ≡ weight inner rows
 rows_weigh rows inner =
-    sym (weight_map (λ x. x) (at_row rows inner) (counted_up 0 (length rows)))
-    ∙ ap (weight (λ x. x)) (rows_from (at_row rows inner) inner 0 rows (λ i site e. let same : 0 + i ≡ i = omega arith in ap (at_row rows inner) same ∙ ap (where_some inner) e))
-    ∙ weight_map (λ x. x) inner rows
+    sym (weight_map (λ x. x) (by_row rows inner) (counted_up 0 (length rows))) ∙ ap (weight (λ x. x)) (rows_in_order rows inner) ∙ weight_map (λ x. x) inner rows
 
 -- the barriers of a body with those of its calls
 body_apart : (program : List FunctionNode) → IsSound program → (n k : ℕ) (scope : Scope) → IsSmall program k → slice_get program k ≡ Some scope.function
     → scope.sites + measured own_sites program k ≤ 16384
     → weight (λ site. one n (site_in scope site)) (stmts_sites scope.function.body)
-    + weight (at_row scope.function.calls (in_call (measured own_sites program) scope.sites n)) (stmts_calls scope.function.body)
+    + weight (by_row scope.function.calls (in_call (measured own_sites program) scope.sites n)) (stmts_calls scope.function.body)
     ≤ between n scope.sites (scope.sites + measured own_sites program k)
 body_apart program sound n k scope small e room =
     let f : FunctionNode = scope.function in
@@ -56,8 +50,8 @@ body_apart program sound n k scope small e room =
     let own_bound : weight (λ site. one n (site_in scope site)) (counted_up 0 f.sites) ≤ between n (base + 0) (base + 0 + f.sites) = own_apart n base 0 f.sites (omega arith) in
     let zero_first : base + 0 ≡ base = omega arith in
     let own_same : between n (base + 0) (base + 0 + f.sites) ≡ between n base (base + f.sites) = ap (λ x. between n x (x + f.sites)) zero_first in
-    let calls : weight (at_row f.calls (in_call S base n)) (stmts_calls f.body) ≡ weight (in_call S base n) f.calls =
-    ap (weight (at_row f.calls (in_call S base n))) formed.calls ∙ rows_weigh f.calls (in_call S base n) in
+    let calls : weight (by_row f.calls (in_call S base n)) (stmts_calls f.body) ≡ weight (in_call S base n) f.calls =
+    ap (weight (by_row f.calls (in_call S base n))) formed.calls ∙ rows_weigh f.calls (in_call S base n) in
     let rows : weight (in_call S base n) f.calls ≡ between n (base + f.sites) (base + f.sites + weight S (callees f)) =
     ap (weight (in_call S base n)) formed.table ∙ rows_apart V S base n f.variables f.sites (callees f) (omega arith) in
     let ends : base + f.sites + weight S (callees f) ≡ base + S k = omega arith in
@@ -75,7 +69,7 @@ sites_at program sound n (suc levels) k scope small e room =
     let f : FunctionNode = scope.function in
     let S : ℕ → ℕ = measured own_sites program in
     let own : ℕ → ℕ = λ site. one n (site_in scope site) in
-    let inner : ℕ → ℕ = at_row f.calls (in_call S scope.sites n) in
+    let inner : ℕ → ℕ = by_row f.calls (in_call S scope.sites n) in
     let have : CallsHave inner n (expanded levels program) program scope = λ call args site callee e' e''.
     let within : IsWithin (measured own_variables program) S (measured own_variables program k) (S k) site = call_within program sound k f small e call site e' in
     let more : site.sites + S site.callee ≤ S k = within.sites in
