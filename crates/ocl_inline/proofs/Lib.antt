@@ -5,3 +5,17 @@ pub mod Ranks
 pub mod Rows
 pub mod Onto
 pub mod Parts
+pub mod Sound
+pub mod Counts
+pub mod Tables
+pub mod SitesHeld
+pub mod SiteNumbers
+pub mod VariablesBelow
+pub mod VariableNumbers
+pub mod CallMeasures
+pub mod NodesKept
+pub mod DepthKept
+pub mod ControlKept
+pub mod CallsReached
+pub mod MeasuresAlike
+pub mod WorkedFlat

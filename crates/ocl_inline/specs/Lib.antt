@@ -6,3 +6,6 @@ pub mod Laws
 pub mod Shapes
 pub mod Expanding
 pub mod Sizes
+pub mod FlatNumbers
+pub mod FlatMeasures
+pub mod FlatLaws
