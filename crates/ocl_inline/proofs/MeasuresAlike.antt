@@ -79,9 +79,9 @@ calls_alike program sound (suc levels) k scope small e =
 
 pub measures_kept : OfSmallFunctions HaveMeasures
 unfolding expanded
-measures_kept program sound number kernel small e = (
-  kernel_measured flat_nodes stmts_size refl stmts_nodes_kept program sound.nodes number kernel e,
-  kernel_measured flat_depth stmts_depth refl stmts_depth_kept program sound.depth number kernel e,
-  kernel_measured flat_control stmts_control refl stmts_control_kept program sound.control number kernel e,
-  calls_alike program sound (suc (length program)) number (kernel_scope kernel) small e ∙ one_level_more own_calls program sound.calls number kernel e,
-)
+measures_kept program sound number kernel small e = record {
+  nodes = kernel_measured flat_nodes stmts_size refl stmts_nodes_kept program sound.nodes number kernel e;
+  depth = kernel_measured flat_depth stmts_depth refl stmts_depth_kept program sound.depth number kernel e;
+  control = kernel_measured flat_control stmts_control refl stmts_control_kept program sound.control number kernel e;
+  calls = calls_alike program sound (suc (length program)) number (kernel_scope kernel) small e ∙ one_level_more own_calls program sound.calls number kernel e;
+}
