@@ -5,3 +5,4 @@ pub mod Ranks
 pub mod Rows
 pub mod Onto
 pub mod Parts
+pub mod Flats

@@ -6,3 +6,4 @@ pub mod Laws
 pub mod Shapes
 pub mod Expanding
 pub mod Sizes
+pub mod FlatItems

@@ -6,6 +6,7 @@
 #![tactic(auto)]
 
 pub mod expansion;
+pub mod kernels;
 pub mod laws;
 pub mod nodes;
 pub mod trees;
