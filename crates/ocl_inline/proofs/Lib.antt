@@ -19,3 +19,5 @@ pub mod ControlKept
 pub mod CallsReached
 pub mod MeasuresAlike
 pub mod WorkedFlat
+pub mod Flats
+pub mod KernelLaws

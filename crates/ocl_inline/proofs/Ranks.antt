@@ -10,7 +10,8 @@ use Rattle.ocl_measures.specs.Recursion.{calls_at, is_recursive, leads, some_lea
 use Rattle.ocl_sem.specs.Source.{Scope, scope_at, site_of, callee_of, variable_in, array_in, site_in}
 use Rattle.ocl_inline.specs.Trees.{FlatArgs, FlatExpr, FlatStmt, FlatStmts, FlatValue, UnaryFlat, BinaryFlat, BothFlat, EitherFlat, ChooseFlat, CastFlat, LoadFlat, CallFlat, LostFlat, BuiltinFlat, ParenFlat, NumberArg, NamedArg, SomeFlat, DeclareFlat, LocalArrayFlat, SetVariableFlat, SetElementFlat, CallStmtFlat, IfFlat, IfElseFlat, WhileFlat, DoFlat, ForFlat, ReturnFlat, BlockFlat, AndFlat}
 use Rattle.ocl_inline.specs.Expansion.{Bodies, call_flat, flat_expr, flat_args, flat_value, flat_stmt, flat_stmts, expanded, binding_at}
-use Rattle.ocl_inline.specs.Laws.{AreBodies, HaveNoRecursion}
+use Rattle.program_laws.specs.Laws.{HaveNoRecursion}
+use Rattle.ocl_inline.specs.Laws.{AreBodies}
 
 pub both_alike : {A B C : Type 0} (f : A → B → C) (a a' : A) (b b' : B) → a ≡ a' → b ≡ b' → f a b ≡ f a' b'
 both_alike f a a' b b' e e' = ap (λ x. f x b) e ∙ ap (λ y. f a' y) e'
@@ -131,9 +132,9 @@ one_fewer some k (suc n) below here =
     cond_both (nat_eq n k) false (some n) P
     (λ e. let there : some n ≡ true = ap some (eqb-true n k e) ∙ here in rw there (omega arith))
     (λ e.
-        let less : k < n = omega (arith, λ (same : n ≡ k). false≢true (sym e ∙ eq-eqb n k same)) in
-        let more : counted (without k some) n + 1 ≤ counted some n = one_fewer some k n less here in
-        omega arith)
+    let less : k < n = omega (arith, λ (same : n ≡ k). false≢true (sym e ∙ eq-eqb n k same)) in
+    let more : counted (without k some) n + 1 ≤ counted some n = one_fewer some k n less here in
+    omega arith)
 
 -- ---- calls that lead on
 
@@ -209,18 +210,18 @@ unfolding expanded
 deep_enough program none zero n some few room k scope e led =
     let below : k < length program = slice_get_within program k scope.function e in
     let less : counted (without k some) (length program) + 1 ≤ counted some (length program) =
-        one_fewer some k (length program) below (still_allowed program none zero n some room k below led) in
+    one_fewer some k (length program) below (still_allowed program none zero n some room k below led) in
     absurd (omega arith)
 deep_enough program none (suc m) n some few room k scope e led =
     let below : k < length program = slice_get_within program k scope.function e in
     let less : counted (without k some) (length program) + 1 ≤ counted some (length program) =
-        one_fewer some k (length program) below (still_allowed program none (suc m) n some room k below led) in
+    one_fewer some k (length program) below (still_allowed program none (suc m) n some room k below led) in
     stmts_agree (expanded m program) (expanded (suc m) program) program scope
     (λ call args site callee e' e''. deep_enough program none m (suc n) (without k some) (omega arith) (omega arith) site.callee (scope_at scope site callee args) e''
-      (λ a gone. elim (cases_Bool (nat_eq a k)) [
-        | inl at ↦ subst (λ x. leads program site.callee (suc n) x ≡ true) (sym (eqb-true a k at)) (first_call program n k call scope.function site e e')
-        | inr other ↦ leads_on program n k call a scope.function site e e' (led a (ap (λ b. if b then false else some a) (sym other) ∙ gone))
-      ]))
+    (λ a gone. elim (cases_Bool (nat_eq a k)) [
+      | inl at ↦ subst (λ x. leads program site.callee (suc n) x ≡ true) (sym (eqb-true a k at)) (first_call program n k call scope.function site e e')
+      | inr other ↦ leads_on program n k call a scope.function site e e' (led a (ap (λ b. if b then false else some a) (sym other) ∙ gone))
+    ]))
     scope.function.body
 
 pub bodies_expanded : (program : List FunctionNode) → HaveNoRecursion program → AreBodies (expanded (length program) program) program

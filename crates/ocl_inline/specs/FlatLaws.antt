@@ -28,3 +28,7 @@ pub record HaveMeasures (program : List FunctionNode) (number : ℕ) (flat : Fla
 abbrev pub OfFlatKernels : (List FunctionNode → ℕ → FlatKernel → Type 0) → Type 0
 OfFlatKernels P = (program : List FunctionNode) → IsProgram program → (number : ℕ) (kernel : FunctionNode) → slice_get program number ≡ Some kernel → kernel.kernel ≡ true
     → P program number (kernel_flat program number kernel)
+
+-- where a kernel of the program has the number
+abbrev pub WhereKernel : List FunctionNode → ℕ → Type 0 → Type 0
+WhereKernel program number P = (kernel : FunctionNode) → slice_get program number ≡ Some kernel → kernel.kernel ≡ true → P

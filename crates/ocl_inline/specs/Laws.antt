@@ -1,12 +1,12 @@
 -- What a kernel and its flat form have in common.
-use Rattle.std.specs.Prelude.{◌≡◌, ℕ, ◌<◌, false, List, length, Some, slice_get}
+use Rattle.std.specs.Prelude.{◌≡◌, ℕ, List, length, Some, slice_get}
 use Rattle.item_acts.specs.Machine.{asked}
-use Rattle.ocl_measures.specs.Recursion.{is_recursive}
 use Rattle.ocl_program.specs.Nodes.{FunctionNode}
 use Rattle.ocl_sem.specs.Items.{ItemState, item_step}
 use Rattle.ocl_sem.specs.Settings.{Setting}
 use Rattle.ocl_sem.specs.Source.{Scope}
 use Rattle.ocl_sem.specs.Tasks.{cost, step}
+use Rattle.program_laws.specs.Laws.{HaveNoRecursion}
 use Rattle.step_machine.specs.Costs.{spent}
 use Rattle.ocl_inline.specs.FlatTasks.{flat_parts}
 use Rattle.ocl_inline.specs.Expansion.{Bodies, expanded, flat_stmts}
@@ -20,10 +20,6 @@ AreBodies bodies program = (scope : Scope) (k : ℕ) → slice_get program k ≡
 abbrev pub StepsAlike : Type 0
 StepsAlike = (bodies : Bodies) (program : List FunctionNode) → AreBodies bodies program → (at : Setting) (s : ItemState)
     → step flat_parts at (state_at bodies program s) ≡ step_at bodies program (item_step program at s)
-
--- no function reaches a call of itself
-abbrev pub HaveNoRecursion : List FunctionNode → Type 0
-HaveNoRecursion program = (k : ℕ) → k < length program → is_recursive program k ≡ false
 
 -- as many levels of calls as there are functions expand all of them
 abbrev pub AllExpanded : Type 0

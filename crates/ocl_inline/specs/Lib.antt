@@ -9,3 +9,4 @@ pub mod Sizes
 pub mod FlatNumbers
 pub mod FlatMeasures
 pub mod FlatLaws
+pub mod FlatItems

@@ -6,6 +6,9 @@
 #![tactic(auto)]
 
 pub mod expansion;
+pub mod kernels;
 pub mod laws;
 pub mod nodes;
+#[cfg(test)]
+mod tests;
 pub mod trees;
