@@ -37,7 +37,7 @@ kernel_variables program typed number flat is kernel here marked =
 pub kernel_measures : (program : List FunctionNode) → ∥ IsProgram program ∥₁ → (number : ℕ) (flat : FlatKernel) → IsFlatOf program number flat → WhereKernel program number (HaveMeasures program number flat)
 kernel_measures program typed number flat is kernel here marked =
     let law : IsProgram program → HaveMeasures program number (kernel_flat program number kernel) =
-        λ of_file. of_kernels HaveMeasures measures_kept program of_file number kernel here marked in
+    λ of_file. of_kernels HaveMeasures measures_kept program of_file number kernel here marked in
     subst (HaveMeasures program number) (sym (is kernel here)) (record {
       nodes = ∥∥₁_elim typed (ℕ_set _ _) (λ of_file. (law of_file).nodes);
       depth = ∥∥₁_elim typed (ℕ_set _ _) (λ of_file. (law of_file).depth);

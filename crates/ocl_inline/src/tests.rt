@@ -32,10 +32,12 @@ fn numbers_of(call: &FlatExpr) -> Option<(u32, u32)> {
     };
     match (args.get(0), body.get(1)) {
         (
-            Some(FlatArgument::Number {
-                binding: Binding::Variable(variable, _),
-                ..
-            }),
+            Some(
+                FlatArgument::Number {
+                    binding: Binding::Variable(variable, _),
+                    ..
+                },
+            ),
             Some(FlatStmt::Barrier { site }),
         ) => Some((*site, *variable)),
         _ => None,
@@ -45,9 +47,12 @@ fn numbers_of(call: &FlatExpr) -> Option<(u32, u32)> {
 /// The two calls in the sum that a kernel's first variable is declared with.
 fn calls_of(flat: &Flat) -> Option<(&FlatExpr, &FlatExpr)> {
     match flat.body.get(0) {
-        Some(FlatStmt::Declare {
-            value: Some(value), ..
-        }) => match &**value {
+        Some(
+            FlatStmt::Declare {
+                value: Some(value),
+                ..
+            },
+        ) => match &**value {
             FlatExpr::Binary { left, right, .. } => Some((left, right)),
             _ => None,
         },
