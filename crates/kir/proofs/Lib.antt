@@ -1,5 +1,6 @@
 mod WorkedCode
 mod WorkedMeasures
 pub mod Rows
-pub mod Turns
-pub mod Runs
+pub mod TurnLaws
+pub mod RunLaws
+pub mod JumpLaws

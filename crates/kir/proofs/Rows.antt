@@ -1,5 +1,5 @@
 -- The operations inside an operation, read as the list of the `Vec` that holds them.
-use Rattle.std.proofs.Common.{◌≡◌, refl, ap, ◌∙◌, Vec, Global}
+use Rattle.std.proofs.Common.{◌≡◌, refl, ap, sym, ◌∙◌, List, Vec, Global}
 use mathlib.Core.Former.{Count}
 use Rattle.kir.specs.Shapes.{op_of, operand_of, ops_of, row_ops}
 use Rattle.kir.specs.Trees as tree
@@ -54,3 +54,22 @@ pub call_node : (body : Vec Op Global) → op_of (Call body) ≡ tree.Call (ops_
 call_node body =
     let first = first_of (Call body) in
     ap tree.Call (row_items first.0 first.1 ∙ ap ops_of (items_hidden-the_row-Op-0 body))
+
+-- the same, where the lists are seen as slices
+pub if_seen : (op : Op) (test : Operand) (one other : Vec Op Global) (one' other' : List Op) → op ≡ If test one other → one' ≡ one.items → other' ≡ other.items
+    → op_of op ≡ tree.If (operand_of test) (ops_of one') (ops_of other')
+if_seen op test one other one' other' e p q =
+    ap op_of e ∙ if_node test one other ∙ ap (λ xs. tree.If (operand_of test) (ops_of xs) (ops_of other.items)) (sym p)
+    ∙ ap (λ xs. tree.If (operand_of test) (ops_of one') (ops_of xs)) (sym q)
+
+pub loop_seen : (op : Op) (head : Vec Op Global) (test : Operand) (body step : Vec Op Global) (head' body' step' : List Op)
+    → op ≡ Loop head test body step → head' ≡ head.items → body' ≡ body.items → step' ≡ step.items
+    → op_of op ≡ tree.Loop (ops_of head') (operand_of test) (ops_of body') (ops_of step')
+loop_seen op head test body step head' body' step' e p q r =
+    ap op_of e ∙ loop_node head test body step
+    ∙ ap (λ xs. tree.Loop (ops_of xs) (operand_of test) (ops_of body.items) (ops_of step.items)) (sym p)
+    ∙ ap (λ xs. tree.Loop (ops_of head') (operand_of test) (ops_of xs) (ops_of step.items)) (sym q)
+    ∙ ap (λ xs. tree.Loop (ops_of head') (operand_of test) (ops_of body') (ops_of xs)) (sym r)
+
+pub call_seen : (op : Op) (body : Vec Op Global) (body' : List Op) → op ≡ Call body → body' ≡ body.items → op_of op ≡ tree.Call (ops_of body')
+call_seen op body body' e p = ap op_of e ∙ call_node body ∙ ap (λ xs. tree.Call (ops_of xs)) (sym p)

@@ -3,7 +3,7 @@ use Rattle.item_acts.specs.Machine.{asked}
 use Rattle.item_settings.specs.Views.{setting_in}
 use Rattle.kir.specs.Machine.{step}
 use Rattle.kir.specs.Views.{state_of, went}
-use Rattle.kir.proofs.Runs.{run_more, run_done, run_end}
+use Rattle.kir.proofs.RunLaws.{run_more, run_done, run_end}
 use Rattle.kir.proofs.states.State.run.Goals as goal
 
 pub returns-in-Ok-Is : goal.returns-in-Ok-Is
