@@ -27,3 +27,6 @@ pub last_raised : (old between new : List ℕ) (turn raised : ℕ) → old ≡ b
     → new ≡ risen old
 last_raised old between new turn raised e e' e'' =
     e' ∙ ap (λ n. between ++ n ∷ []) e'' ∙ sym (last_risen between turn) ∙ ap risen (sym e)
+
+pub left_by : (old new : List ℕ) (n : ℕ) → new ≡ take (n - 1) old → n ≡ length old → new ≡ without_last old
+left_by old new n e e' = e ∙ ap (λ k. take (k - 1) old) e' ∙ all_but_last old

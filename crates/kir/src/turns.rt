@@ -14,7 +14,6 @@ pub fn enter_turns(turns: &mut Vec<u64>) -> Result<(), AllocError>
 }
 
 /// The innermost loop is left.
-
 pub fn leave_turns(turns: &mut Vec<u64>)
     ensures { turns.new.items ≡ without_last turns.old.items }
 {
@@ -22,7 +21,6 @@ pub fn leave_turns(turns: &mut Vec<u64>)
 }
 
 /// One more turn of the innermost loop is over.
-
 pub fn raise(turns: &mut Vec<u64>) -> Result<(), AllocError>
     ensures { OnOk result (turns.new.items ≡ risen turns.old.items) }
 {
