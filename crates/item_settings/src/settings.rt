@@ -44,9 +44,7 @@ impl<'a> Setting<'a> {
                 let k = k as usize;
                 bound_at(self.params.get(k), self.bounds.get(k))
             }
-            ArrayRef::Declared(k) => {
-                declared_at(self.params, k, self.arrays.get(k as usize))
-            }
+            ArrayRef::Declared(k) => { declared_at(self.params, k, self.arrays.get(k as usize)) }
         }
     }
 

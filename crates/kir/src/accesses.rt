@@ -49,9 +49,7 @@ impl<'a> State<'a> {
     ) -> Found
         ensures { op_step (setting_in at.now) (tree.Load variable array elem (operand_of index)) (tasks_of self.now.tasks) (variables_of self.now) self.now.turns.items ≡ shown result (state_of self.now) }
     {
-        let place = at
-            .array(array)
-            .place(at.group(), elem, self.value(index));
+        let place = at.array(array).place(at.group(), elem, self.value(index));
         let size = size_of_elem(elem);
         Found::Asks(Action::Load { place, size }, Some(Kept { variable, elem }))
     }
@@ -67,9 +65,7 @@ impl<'a> State<'a> {
     ) -> Found
         ensures { op_step (setting_in at.now) (tree.Store array elem (operand_of index) (operand_of value)) (tasks_of self.now.tasks) (variables_of self.now) self.now.turns.items ≡ shown result (state_of self.now) }
     {
-        let place = at
-            .array(array)
-            .place(at.group(), elem, self.value(index));
+        let place = at.array(array).place(at.group(), elem, self.value(index));
         let size = size_of_elem(elem);
         let value = low_bytes(elem, self.value(value));
         Found::Asks(Action::Store { place, size, value }, None)

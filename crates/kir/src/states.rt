@@ -44,11 +44,7 @@ pub enum Found {
 
 impl<'a> State<'a> {
     /// A work-item of a kernel before its first step.
-    pub fn start(
-        alloc: Global,
-        code: &'a Kir,
-        bounds: &[Bound],
-    ) -> Result<State<'a>, AllocError>
+    pub fn start(alloc: Global, code: &'a Kir, bounds: &[Bound]) -> Result<State<'a>, AllocError>
         ensures { IfOk result (λ state. state_of state ≡ kir_start (code_of code.now) bounds.now) }
     {
         let mut tasks = Stack::new(alloc);

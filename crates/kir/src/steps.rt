@@ -67,10 +67,7 @@ impl<'a> State<'a> {
             Op::Load { .. } | Op::Store { .. } | Op::Check { .. } => Ok(self.access(at, op)),
             Op::Barrier { site } => {
                 let turns = turns_now(alloc, self.turns.as_slice())?;
-                Ok(Found::Asks(
-                    Action::Barrier(Point { site: *site, turns }),
-                    None,
-                ))
+                Ok(Found::Asks(Action::Barrier(Point { site: *site, turns }), None))
             }
         }
     }
