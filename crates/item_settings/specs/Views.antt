@@ -1,5 +1,5 @@
 -- Which setting the code's is, and when the arrays of a launch have room.
-use Rattle.std.specs.Prelude.{ℕ, ◌*◌, ◌^◌, ◌≤◌, List}
+use Rattle.std.specs.Prelude.{◌*◌, ◌^◌, ◌≤◌, List}
 use Rattle.vx_base.specs.Values.{elem_bytes}
 use Rattle.item_acts.specs.declared.acts.Bound.{Bound}
 use Rattle.ocl_ast.specs.declared.units.Param.{Param}

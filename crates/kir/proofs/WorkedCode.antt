@@ -1,13 +1,12 @@
 -- Small structured kernels, run by hand: each row is what an item asks for after some answers.
-use Rattle.std.proofs.Common.{◌≡◌, refl, ℕ, ◌*◌, true, false, List, [], ◌∷◌}
+use Rattle.std.proofs.Common.{◌≡◌, refl, ℕ, false, List, [], ◌∷◌}
 use Rattle.std.specs.Prelude.{codes}
 use Rattle.vx_base.specs.declared.types.Alu.TheVariants.{Add, Sub, Sltu}
-use Rattle.vx_base.specs.declared.types.Elem.{Elem}
-use Rattle.vx_base.specs.declared.types.Elem.TheVariants.{Char, Uchar, Short, Int}
+use Rattle.vx_base.specs.declared.types.Elem.TheVariants.{Char, Short, Int}
 use Rattle.vx_base.specs.declared.types.ParamKind.{ParamKind}
 use Rattle.vx_base.specs.declared.types.ParamKind.TheVariants.{Scalar, Pointer}
 use Rattle.vx_base.specs.declared.types.Pos.{Pos}
-use Rattle.vx_base.specs.declared.types.Size.TheVariants.{One, Two, Four}
+use Rattle.vx_base.specs.declared.types.Size.TheVariants.{Two, Four}
 use Rattle.vx_base.specs.declared.types.Space.TheVariants.{Global as GlobalSpace}
 use Rattle.item_acts.specs.declared.acts.Action.TheVariants.{Load as LoadAction, Store as StoreAction, Barrier as BarrierAction, Fault, End}
 use Rattle.item_acts.specs.declared.acts.Asked.{Asked}
@@ -17,8 +16,7 @@ use Rattle.item_acts.specs.declared.acts.Place.TheVariants.{Global, Local}
 use Rattle.item_acts.specs.declared.acts.Range.{Range}
 use Rattle.ocl_ast.specs.declared.units.Param.{Param}
 use Rattle.ocl_program.specs.declared.exprs.ArrayRef.TheVariants.{Parameter, Declared}
-use Rattle.ocl_program.specs.declared.exprs.Builtin.TheVariants.{WorkDim, GlobalId, LocalId, GroupId, NumGroups}
-use Rattle.ocl_program.specs.declared.functions.LocalArray.{LocalArray}
+use Rattle.ocl_program.specs.declared.exprs.Builtin.TheVariants.{WorkDim, GlobalId, LocalId, GroupId}
 use Rattle.kir.specs.Machine.{kir_asks, kir_begun}
 use Rattle.kir.specs.Trees.{Operand, VariableOf, NumberOf, Op, Set, Calculate, Fit, Id, Load, Store, Check, Barrier, If, Loop, Break, Continue, Return, Call, Ops, NoOps, AndOp, KirCode}
 

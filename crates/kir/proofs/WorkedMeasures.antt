@@ -1,5 +1,5 @@
 -- Measures of small kernels.
-use Rattle.std.proofs.Common.{◌≡◌, refl, ℕ, true, false, List, [], ◌∷◌, inl, inr}
+use Rattle.std.proofs.Common.{◌≡◌, refl, ℕ, true, false, List, [], ◌∷◌, inl}
 use Rattle.vx_base.specs.declared.types.Alu.TheVariants.{Add}
 use Rattle.vx_base.specs.declared.types.Elem.TheVariants.{Int}
 use Rattle.vx_base.specs.declared.types.Pos.{Pos}

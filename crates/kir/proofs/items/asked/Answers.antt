@@ -1,5 +1,3 @@
-use Rattle.item_settings.specs.Views.{setting_in}
-use Rattle.kir.specs.Machine.{code_setting, kir_start}
 use Rattle.kir.specs.Shapes.{code_of}
 use Rattle.kir.specs.Views.{state_of}
 use Rattle.kir.proofs.RunLaws.{asked_as}
