@@ -80,12 +80,7 @@ fn kernel(alloc: Global) -> Result<Kir, AllocError> {
         },
     )?;
     let body = turn(alloc)?;
-    let endless = loop_op(
-        Vec::new(alloc),
-        Operand::Number(1),
-        body,
-        Vec::new(alloc),
-    );
+    let endless = loop_op(Vec::new(alloc), Operand::Number(1), body, Vec::new(alloc));
     let inside = one(alloc, endless)?;
     ops.push(call_op(inside))?;
     ops.push(Op::Check {
@@ -156,7 +151,12 @@ fn an_item_stops_outside_its_array(rt: HostRuntime) -> Result<(), Fail> {
         bounds: bounds(alloc)?,
     };
     let asked = items.next(alloc, 5, &[], 100);
-    assert!(rt; matches!(&asked, Ok(Asked::Act(Action::Fault(Pos { line: 1, col: 40 })))));
+    assert!(rt;
+        matches!(
+            &asked,
+            Ok(Asked::Act(Action::Fault(Pos { line: 1, col: 40 })))
+        )
+    );
     let computes = items.next(alloc, 5, &[], 10);
     assert!(rt; matches!(&computes, Ok(Asked::Running)));
     Ok(())
