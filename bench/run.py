@@ -3,7 +3,8 @@
 
   bench/run.py        after ./vx has built the program once
   bench/run.py front  texts of 1,048,576 bytes from bytes to tokens: names, punctuators, uses of macros, macros that stand in one another,
-                      a program, from bytes to its trees, and a thousand functions, from bytes to their program; after rt ci or, in
+                      a program, from bytes to its trees, and a thousand functions, from bytes to their program; then a kernel of
+                      16,374 nodes and one of a quarter of its calls, each expanded a hundred times; after rt ci or, in
                       crates/front_speed, rt run has built that program
   bench/run.py ports  millions of stores a second to shared words, by one to four threads; after rt ci or, in crates/port_steps,
                       rt run has built that program
@@ -147,9 +148,10 @@ def front():
     if not os.access(FRONT_SPEED, os.X_OK):
         sys.exit("bench: front_speed is not built: run rt run -- names 1000 in crates/front_speed once")
     print("%-9s %8s %10s %10s %10s %12s" % ("text", "status", "bytes", "tokens", "seconds", "peak MiB"))
-    for kind in ("names", "marks", "uses", "nested", "undefs", "program", "functions"):
+    texts = [(kind, LIMIT) for kind in ("names", "marks", "uses", "nested", "undefs", "program", "functions")]
+    for kind, most in (*texts, ("calls", 821), ("calls", 2681)):
         with tempfile.TemporaryFile() as output:
-            status, seconds, peak = run_once([FRONT_SPEED, kind, str(LIMIT)], None, output)
+            status, seconds, peak = run_once([FRONT_SPEED, kind, str(most)], None, output)
             output.seek(0)
             said = output.read().decode().split() or ["", ""]
         print("%-9s %8d %10s %10s %10.3f %12.1f" % (kind, status, said[0], said[1], seconds, peak))

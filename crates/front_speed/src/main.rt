@@ -1,15 +1,17 @@
 //! The program `front_speed`: takes the tokens of a text that it makes, for measurements of speed (`bench/`). Its words are
 //! what the text is made of, `names`, `marks`, `uses` (of macros that use others), `nested` (macros that stand deep in one
-//! another), `undefs` (macros that are all undefined again), `program` (statements of one function, which it also parses) or
-//! `functions` (a thousand functions, of which it also makes the program), and how many bytes it has at most, up to 1,048,576. It
-//! prints the bytes and the tokens.
+//! another), `undefs` (macros that are all undefined again), `program` (statements of one function, which it also parses),
+//! `functions` (a thousand functions, of which it also makes the program) or `calls` (a kernel of calls of a helper, which it also
+//! expands, a hundred times), and how many bytes it has at most, up to 1,048,576. It prints the bytes and the tokens.
 #![tactic(auto)]
 
 ghost use Rattle.std.specs.Prelude.{◌≤◌, length};
 
+use ocl_inline::kernels::expand;
 use ocl_lex::{LexFault, lex};
 use ocl_parser::parse;
 use ocl_tokens::Tokens;
+use ocl_types::Program;
 use std::alloc::{AllocError, Global};
 use std::env;
 use std::process::ExitCode;
@@ -25,6 +27,7 @@ enum Kind {
     Undefs,
     Program,
     Functions,
+    Calls,
 }
 
 fn kind_of(word: &str) -> Option<Kind> {
@@ -36,6 +39,7 @@ fn kind_of(word: &str) -> Option<Kind> {
         "undefs" => Some(Kind::Undefs),
         "program" => Some(Kind::Program),
         "functions" => Some(Kind::Functions),
+        "calls" => Some(Kind::Calls),
         _ => None,
     }
 }
@@ -126,6 +130,32 @@ fn functions(alloc: Global, bytes: usize) -> Result<Vec<u8>, AllocError> {
     Ok(text)
 }
 
+/// A kernel that calls a helper of 62 nodes again and again.
+fn calls(alloc: Global, bytes: usize) -> Result<Vec<u8>, AllocError> {
+    let mut text = Vec::from_slice(alloc, b"int h(int a) { return ")?;
+    for _ in 0..15 {
+        text.extend_from_slice(b"a * 3 + ")?;
+    }
+    text.extend_from_slice(b"a; }\nkernel void k(global int *p) { int b = 1;\n")?;
+    let body = repeated(
+        alloc,
+        b"",
+        b"b = h(b);\n",
+        bytes.saturating_sub(text.len() + 12),
+    )?;
+    text.extend_from_slice(body.as_slice())?;
+    text.extend_from_slice(b"p[0] = b; }\n")?;
+    Ok(text)
+}
+
+/// Whether a program has the kernel `k`, which is then expanded a hundred times.
+fn is_expanded(alloc: Global, program: &Program) -> bool {
+    let Some(kernel) = program.find(b"k") else {
+        return false;
+    };
+    (0..100).all(|_| expand(alloc, program, kernel).is_ok())
+}
+
 fn make_text(alloc: Global, kind: Kind, bytes: usize) -> Result<Vec<u8>, AllocError> {
     match kind {
         Kind::Names => repeated(alloc, b"", b"ab cd_1\n", bytes),
@@ -135,6 +165,7 @@ fn make_text(alloc: Global, kind: Kind, bytes: usize) -> Result<Vec<u8>, AllocEr
         Kind::Undefs => defined_and_undefined(alloc, bytes),
         Kind::Program => program(alloc, bytes),
         Kind::Functions => functions(alloc, bytes),
+        Kind::Calls => calls(alloc, bytes),
     }
 }
 
@@ -145,6 +176,10 @@ fn is_taken(alloc: Global, kind: Kind, text: &[u8], tokens: &Tokens) -> bool
     match kind {
         Kind::Program => parse(alloc, tokens).is_ok(),
         Kind::Functions => front(alloc, text).is_ok(),
+        Kind::Calls => match front(alloc, text) {
+            Ok(program) => is_expanded(alloc, &program),
+            Err(_fault) => false,
+        },
         _ => true,
     }
 }
