@@ -18,11 +18,11 @@ use Rattle.ocl_program.specs.declared.exprs.Builtin.{Builtin}
 use Rattle.ocl_program.specs.declared.exprs.Builtin.TheVariants as builtin
 use Rattle.ocl_program.specs.Nodes.{ExprNode, NumberNode, VariableNode, UnaryNode, BinaryNode, BothNode, EitherNode, ChooseNode, CastNode, LoadNode, CallNode, BuiltinNode, ParenNode, ArgNodes, NoArgs, ValueArg, ArrayArg, StmtNode, DeclareNode, LocalArrayNode, SetVariableNode, SetElementNode, CallStmtNode, BarrierNode, IfNode, IfElseNode, WhileNode, DoNode, ForNode, BreakNode, ContinueNode, ReturnNode, BlockNode, EmptyNode, StmtNodes, NoStmts, AndStmt, FunctionNode}
 use Rattle.ocl_program.specs.Values.{binary_value}
-use Rattle.ocl_sem.specs.declared.settings.ItemArray.{ItemArray}
+use Rattle.item_settings.specs.declared.arrays.ItemArray.{ItemArray}
 use Rattle.ocl_sem.specs.Items.{ItemState, item_step as source_step}
-use Rattle.ocl_sem.specs.Settings.{Setting}
+use Rattle.item_settings.specs.Settings.{Setting}
 use Rattle.ocl_sem.specs.Source.{Scope, SourceTask, array_in, value_tasks, stmt_tasks, stmts_tasks}
-use Rattle.ocl_sem.specs.Tasks as task
+use Rattle.task_machine.specs.declared.tasks.Task.TheVariants as task
 use Rattle.first_kernels.specs.declared.tree.Operator.{Operator}
 use Rattle.first_kernels.specs.declared.tree.Operator.TheVariants.{Add, Subtract, Multiply}
 use Rattle.first_kernels.specs.FirstForms.{is_zero, is_zero_literal, is_global_id, is_own_id, operator_of, own_parameter, sum_from, assignment_from, assignments_from, followed}

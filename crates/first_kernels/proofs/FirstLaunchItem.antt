@@ -12,7 +12,6 @@ use Rattle.item_acts.specs.Launches.{put_at}
 use Rattle.item_acts.proofs.Machine.{Leads, leads_none, leads_go, leads_answer}
 use Rattle.item_acts.proofs.Launches.{put_at_each}
 use Rattle.first_kernels.specs.declared.tree.Operator.{Operator}
-use Rattle.first_kernels.specs.declared.tree.Operator.TheVariants.{Add, Subtract, Multiply}
 use Rattle.first_kernels.specs.FirstTree.{Tree, Literal, OwnId, OwnElement, Grouped, Applied, Assigns}
 use Rattle.first_kernels.specs.First.{alu_of, Task, TakeNumber, TakeId, LoadFrom, Operate, StoreTo, evaluation, body_tasks, operated, Item, item_step}
 use Rattle.vx_base.proofs.ValueLaws.{alu_value_of-lt}

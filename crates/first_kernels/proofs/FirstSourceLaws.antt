@@ -14,7 +14,8 @@ use Rattle.ocl_ast.specs.declared.units.Param.{Param}
 use Rattle.ocl_program.specs.declared.exprs.ArrayRef.TheVariants.{Parameter}
 use Rattle.ocl_ast.specs.declared.stmts.AssignOp.TheVariants.{Set, With, Up, Down}
 use Rattle.ocl_program.specs.Nodes.{StmtNode, DeclareNode, LocalArrayNode, SetVariableNode, SetElementNode, CallStmtNode, BarrierNode, IfNode, IfElseNode, WhileNode, DoNode, ForNode, BreakNode, ContinueNode, ReturnNode, BlockNode, EmptyNode, StmtNodes, NoStmts, AndStmt, FunctionNode}
-use Rattle.ocl_sem.specs.Settings.{setting_of, array_of, bound_values, global_id, bound_array}
+use Rattle.item_settings.specs.Settings.{bound_values, global_id, bound_array}
+use Rattle.ocl_sem.specs.Settings.{setting_of, array_of}
 use Rattle.ocl_sem.specs.Items.{kernel_asks, kernel_scope}
 use Rattle.first_kernels.specs.First.{launch_of, array_of as buffer_of}
 use Rattle.first_kernels.specs.FirstForms.{form_from, formed, has_int_arrays, is_count, is_int_array, takes_ints, assignment_from, assignments_from, IsFit}

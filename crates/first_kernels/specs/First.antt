@@ -1,4 +1,4 @@
-use Rattle.std.specs.Prelude.{ℕ, ◌+◌, ◌-◌, ◌*◌, ◌%◌, ◌^◌, List, [], ◌∷◌, replicate, slice_index}
+use Rattle.std.specs.Prelude.{ℕ, ◌*◌, ◌%◌, ◌^◌, List, [], ◌∷◌, replicate, slice_index}
 use Rattle.vx_base.specs.Values.{alu_value_of}
 use Rattle.vx_base.specs.declared.types.Alu.{Alu}
 use Rattle.vx_base.specs.declared.types.Alu.TheVariants as alu

@@ -1,4 +1,4 @@
-use Rattle.std.specs.Prelude.{◌≡◌, ℕ, ◌+◌, ◌*◌, ◌/◌, ◌<◌, ◌≤◌, List, length}
+use Rattle.std.specs.Prelude.{◌≡◌, ℕ, ◌+◌, ◌*◌, ◌/◌, ◌<◌, List, length}
 use Rattle.vx_base.specs.Bytes.{field_of}
 use Rattle.first_kernels.specs.FirstTree.{Form}
 use Rattle.first_kernels.specs.First.{array_of}

@@ -1,6 +1,7 @@
 //! Stacks.
 use std::alloc::{AllocError, Global};
 use std::marker::Model;
+use vx_base::ListOf;
 
 /// A stack: contracts see its elements with the last one first.
 #[derive(Debug, Drop)]
@@ -41,5 +42,17 @@ impl<T: Drop> Stack<T> {
         ensures { MatchOption result ((self.old ≡ []) × (self.new ≡ [])) (λ item. self.old ≡ item ∷ self.new) }
     {
         self.items.pop()
+    }
+}
+
+impl Stack<u64> {
+    ghost use Rattle.std.specs.Prelude.{◌≡◌, IfOk, reverse};
+
+    /// The numbers from the lowest to the top.
+    pub fn to_list(&self, alloc: Global) -> Result<ListOf<u64>, AllocError>
+        ensures { IfOk result (λ list. list ≡ reverse self.now) }
+    {
+        let items = self.items.iter().copied().collect(alloc)?;
+        Ok(ListOf { items })
     }
 }

@@ -1,15 +1,14 @@
 -- Each step of the flat kernel is the source's.
-use Rattle.std.proofs.Common.{◌≡◌, refl, sym, ap, ◌∙◌, ℕ, ◌==◌, List, [], ◌∷◌, Option, None, Some, Bool, true, false, if◌then◌else◌, nat_lt, option_map}
+use Rattle.std.proofs.Common.{◌≡◌, refl, ap, ◌∙◌, ℕ, ◌==◌, List, [], ◌∷◌, Option, None, Some, Bool, true, false, if◌then◌else◌, nat_lt, option_map}
 use Rattle.vx_base.specs.declared.types.Pos.{Pos}
-use Rattle.item_acts.specs.Machine.{Step, Go, Ask, Stop}
+use Rattle.item_acts.specs.Machine.{Go}
 use Rattle.ocl_program.specs.Nodes.{FunctionNode}
-use Rattle.ocl_sem.specs.declared.settings.ItemArray.{ItemArray}
-use Rattle.ocl_sem.specs.Items.{ItemState, item_step}
-use Rattle.ocl_sem.specs.Settings.{Setting}
+use Rattle.item_settings.specs.declared.arrays.ItemArray.{ItemArray}
+use Rattle.ocl_sem.specs.Items.{ItemState}
+use Rattle.item_settings.specs.Settings.{Setting}
 use Rattle.ocl_sem.specs.Source.{PlacedExpr, PlacedStmt, SourceTask, SourceLoop, source_parts}
-use Rattle.ocl_sem.specs.Tasks as task
-use Rattle.ocl_sem.specs.Tasks.{State, top, under, onward, holding, turning, optional, returned, left, continued, load_step, store_step, headed, turned, risen, task_step, step_from, step}
-use Rattle.ocl_inline.specs.Trees.{FlatExpr, FlatStmt}
+use Rattle.task_machine.specs.declared.tasks.Task.TheVariants as task
+use Rattle.task_machine.specs.Tasks.{top, under, onward, holding, turning, optional, returned, left, continued, load_step, store_step, headed, turned, risen, task_step, step_from}
 use Rattle.ocl_inline.specs.FlatTasks.{FlatTask, flat_parts}
 use Rattle.ocl_inline.specs.Expansion.{Bodies}
 use Rattle.ocl_inline.specs.Mapping.{FlatState, expr_at, stmt_at, loop_at, task_at, tasks_at, state_at, step_at}

@@ -1,5 +1,5 @@
 -- The tasks of a flat tree are those that stand for the tasks of its source.
-use Rattle.std.proofs.Common.{◌≡◌, refl, sym, ap, ◌∙◌, ℕ, ◌+◌, List, [], ◌∷◌, Option, None, Some, Bool, map, slice_get, take, count_by}
+use Rattle.std.proofs.Common.{◌≡◌, refl, ap, ◌∙◌, ℕ, ◌+◌, List, [], ◌∷◌, Option, None, Some, Bool, slice_get, take, count_by}
 use Rattle.vx_base.specs.declared.types.Elem.{Elem}
 use Rattle.vx_base.specs.declared.types.ParamKind.{ParamKind}
 use Rattle.vx_base.specs.declared.types.ParamKind.TheVariants.{Scalar, Pointer}
@@ -11,13 +11,13 @@ use Rattle.ocl_ast.specs.declared.units.Param.{Param}
 use Rattle.ocl_program.specs.Measures.{cut}
 use Rattle.ocl_program.specs.declared.functions.CallSite.{CallSite}
 use Rattle.ocl_program.specs.Nodes.{ExprNode, NumberNode, VariableNode, UnaryNode, BinaryNode, BothNode, EitherNode, ChooseNode, CastNode, LoadNode, CallNode, BuiltinNode, ParenNode, ArgNodes, NoArgs, ValueArg, ArrayArg, StmtNode, DeclareNode, LocalArrayNode, SetVariableNode, SetElementNode, CallStmtNode, BarrierNode, IfNode, IfElseNode, WhileNode, DoNode, ForNode, BreakNode, ContinueNode, ReturnNode, BlockNode, EmptyNode, StmtNodes, NoStmts, AndStmt, FunctionNode}
-use Rattle.ocl_sem.specs.Tasks as task
+use Rattle.task_machine.specs.declared.tasks.Task.TheVariants as task
 use Rattle.ocl_sem.specs.Source as source
 use Rattle.ocl_sem.specs.Source.{Scope, SourceTask, variable_in, array_in, scope_at, site_of, callee_of, is_scalar}
-use Rattle.ocl_inline.specs.Trees.{BlockFlat, FlatArgs, FlatExpr, FlatStmt, value_of, NoFlats}
-use Rattle.ocl_inline.specs.FlatTasks.{FlatTask, bound_to, value_tasks, values_tasks, args_tasks, operand_tasks, assigned_tasks, given_tasks, return_tasks, declared_tasks, loop_of, head_tasks, stmt_tasks, stmts_tasks}
+use Rattle.ocl_inline.specs.Trees.{BlockFlat, FlatArgs}
+use Rattle.ocl_inline.specs.FlatTasks.{bound_to, value_tasks, values_tasks, args_tasks, operand_tasks, assigned_tasks, given_tasks, return_tasks, declared_tasks, loop_of, head_tasks, stmt_tasks, stmts_tasks}
 use Rattle.ocl_inline.specs.Expansion.{Bodies, binding_as, binding_by, binding_at, call_flat, flat_expr, flat_args, flat_value, flat_stmt, flat_stmts}
-use Rattle.ocl_inline.specs.Mapping.{task_at, tasks_at, loop_at}
+use Rattle.ocl_inline.specs.Mapping.{task_at, tasks_at}
 use Rattle.ocl_inline.specs.Laws.{AreBodies}
 
 -- what is done with an argument

@@ -1,5 +1,5 @@
 -- What has been expanded, in front of what is left.
-use Rattle.std.proofs.Common.{◌≡◌, refl, sym, ap, ◌∙◌, List, [], ◌∷◌, ◌++◌}
+use Rattle.std.proofs.Common.{◌≡◌, refl, ap, List, [], ◌∷◌, ◌++◌}
 use Rattle.ocl_inline.specs.declared.trees.FlatArgument.{FlatArgument}
 use Rattle.ocl_inline.specs.declared.trees.FlatStmt.{FlatStmt}
 use Rattle.ocl_inline.specs.Shapes.{flat_arguments, flat_trees, stmt_of, with_arg}

@@ -1,5 +1,5 @@
 -- What the parts of a function are expanded to, one after another, and that each part is smaller than the whole.
-use Rattle.std.proofs.Common.{◌≡◌, ℕ, zero, suc, ◌+◌, ◌*◌, ◌<◌, ◌≤◌, cond, count_by, Bool, true, false, List, [], ◌∷◌, ◌++◌, map, length, take, drop, get_or, slice_get, Option, None, Some, Vec, Box, Global, Bor, refl, sym, ap, ◌∙◌, arith}
+use Rattle.std.proofs.Common.{◌≡◌, ℕ, zero, suc, ◌+◌, ◌*◌, ◌<◌, ◌≤◌, cond, count_by, Bool, List, [], ◌∷◌, ◌++◌, map, length, take, drop, get_or, slice_get, Option, None, Some, Vec, Box, Global, Bor, refl, sym, ap, ◌∙◌, arith}
 use Rattle.std.specs.Option.{IfSome, MatchOption, option_copied, option_map}
 use Rattle.std.proofs.lemmas.List.{drop_more}
 use Rattle.std.proofs.lemmas.Option.{slice_get_past}
@@ -14,7 +14,7 @@ use Rattle.ocl_program.specs.declared.functions.CallSite.{CallSite}
 use Rattle.ocl_program.specs.declared.functions.TypedFunction.{TypedFunction}
 use Rattle.ocl_program.specs.declared.stmts.TypedStmt.{TypedStmt, For, Block}
 use Rattle.ocl_program.specs.Measures.{cut}
-use Rattle.ocl_program.specs.Nodes.{ArgNodes, NoArgs, ValueArg, ArrayArg, ArgNode, ValueNode, ArrayNode, CallNode, BuiltinNode, BlockNode, ForNode, FunctionNode, StmtNode, StmtNodes, NoStmts, AndStmt, arg_nodes}
+use Rattle.ocl_program.specs.Nodes.{ArgNodes, NoArgs, ValueArg, ArrayArg, ArgNode, ValueNode, ArrayNode, CallNode, BuiltinNode, BlockNode, ForNode, FunctionNode, StmtNodes, NoStmts, AndStmt, arg_nodes}
 use Rattle.ocl_program.specs.Shapes.{argument_node, function_node, node_of, stmt_node, typed_stmts}
 use Rattle.ocl_program.proofs.Rows.{call_node, builtin_node, block_node, for_node}
 use Rattle.ocl_sem.specs.declared.scopes.Scope.{Scope}
@@ -24,7 +24,7 @@ use Rattle.ocl_inline.specs.declared.trees.Binding.{Binding}
 use Rattle.ocl_inline.specs.declared.trees.FlatArgument.{FlatArgument}
 use Rattle.ocl_inline.specs.declared.trees.FlatStmt.{FlatStmt}
 use Rattle.ocl_inline.specs.Expanding.{args_in, argument_in, bodies_in, call_in, stmt_in, stmts_in, value_in, variable_behind, variable_behind_kind}
-use Rattle.ocl_inline.specs.Expansion.{Bodies, binding_at, binding_by, call_flat, expanded, flat_args, flat_stmt, flat_stmts}
+use Rattle.ocl_inline.specs.Expansion.{binding_at, binding_by, call_flat, expanded, flat_stmt, flat_stmts}
 use Rattle.ocl_inline.specs.Shapes.{flat_arguments, flat_trees, stmt_of, with_arg}
 use Rattle.ocl_inline.specs.Sizes.{arg_size, args_size, bodies_size, stmt_size, stmts_size}
 use Rattle.ocl_inline.specs.Trees.{FlatArgs, FlatExpr, FlatStmt as Tree, FlatStmts, FlatValue, ForFlat, NoFlats, AndFlat, CallFlat, LostFlat}

@@ -1,14 +1,14 @@
 -- Where no function reaches a call of itself, as many levels of calls as there are functions expand all of them.
-use Rattle.std.proofs.Common.{◌≡◌, refl, sym, ap, ◌∙◌, subst, ℕ, zero, suc, ◌+◌, ◌<◌, ◌≤◌, ◌==◌, nat_eq, Bool, true, false, ◌||◌, ◌⊎◌, inl, inr, ◌-◌, if◌then◌else◌, List, [], ◌∷◌, length, slice_get, Option, None, Some, arith, eqb-true, eq-eqb}
+use Rattle.std.proofs.Common.{◌≡◌, refl, sym, ap, ◌∙◌, subst, ℕ, zero, suc, ◌+◌, ◌<◌, ◌≤◌, ◌==◌, nat_eq, Bool, true, false, ◌||◌, inl, inr, ◌-◌, if◌then◌else◌, List, [], ◌∷◌, length, slice_get, Option, None, Some, arith, eqb-true, eq-eqb}
 use Rattle.std.specs.List.{list_any}
 use Rattle.ocl_ast.specs.declared.units.Param.{Param}
 use Rattle.std.proofs.lemmas.Bool.{cond_both, cases_Bool, false≢true, or_cases, or_left, or_right}
 use Rattle.std.proofs.lemmas.Option.{slice_get_within}
 use Rattle.ocl_program.specs.declared.functions.CallSite.{CallSite}
 use Rattle.ocl_program.specs.Nodes.{ExprNode, NumberNode, VariableNode, UnaryNode, BinaryNode, BothNode, EitherNode, ChooseNode, CastNode, LoadNode, CallNode, BuiltinNode, ParenNode, ArgNodes, NoArgs, ValueArg, ArrayArg, StmtNode, DeclareNode, LocalArrayNode, SetVariableNode, SetElementNode, CallStmtNode, BarrierNode, IfNode, IfElseNode, WhileNode, DoNode, ForNode, BreakNode, ContinueNode, ReturnNode, BlockNode, EmptyNode, StmtNodes, NoStmts, AndStmt, FunctionNode}
-use Rattle.ocl_measures.specs.Recursion.{calls_at, is_recursive, leads, some_leads}
-use Rattle.ocl_sem.specs.Source.{Scope, scope_at, site_of, callee_of, variable_in, array_in, site_in}
-use Rattle.ocl_inline.specs.Trees.{FlatArgs, FlatExpr, FlatStmt, FlatStmts, FlatValue, UnaryFlat, BinaryFlat, BothFlat, EitherFlat, ChooseFlat, CastFlat, LoadFlat, CallFlat, LostFlat, BuiltinFlat, ParenFlat, NumberArg, NamedArg, SomeFlat, DeclareFlat, LocalArrayFlat, SetVariableFlat, SetElementFlat, CallStmtFlat, IfFlat, IfElseFlat, WhileFlat, DoFlat, ForFlat, ReturnFlat, BlockFlat, AndFlat}
+use Rattle.ocl_measures.specs.Recursion.{calls_at, leads, some_leads}
+use Rattle.ocl_sem.specs.Source.{Scope, scope_at, site_of, callee_of, variable_in, array_in}
+use Rattle.ocl_inline.specs.Trees.{FlatArgs, UnaryFlat, BinaryFlat, BothFlat, EitherFlat, ChooseFlat, CastFlat, LoadFlat, CallFlat, LostFlat, BuiltinFlat, ParenFlat, NumberArg, NamedArg, SomeFlat, DeclareFlat, LocalArrayFlat, SetVariableFlat, SetElementFlat, CallStmtFlat, IfFlat, IfElseFlat, WhileFlat, DoFlat, ForFlat, ReturnFlat, BlockFlat, AndFlat}
 use Rattle.ocl_inline.specs.Expansion.{Bodies, call_flat, flat_expr, flat_args, flat_value, flat_stmt, flat_stmts, expanded, binding_at}
 use Rattle.program_laws.specs.Laws.{HaveNoRecursion}
 use Rattle.ocl_inline.specs.Laws.{AreBodies}

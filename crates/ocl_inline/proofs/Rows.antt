@@ -1,15 +1,13 @@
 -- The arguments and items of a node, read as the list of the `Vec` that holds them.
-use Rattle.std.proofs.Common.{◌≡◌, refl, ap, ◌∙◌, ℕ, Bool, List, Option, None, Some, Vec, Box, Global}
+use Rattle.std.proofs.Common.{◌≡◌, refl, ap, ◌∙◌, Bool, Option, None, Some, Vec, Box, Global}
 use Rattle.std.specs.Option.{option_map}
 use mathlib.Core.Former.{Count}
 use Rattle.ocl_program.specs.declared.exprs.Builtin.{Builtin as Which}
-use Rattle.ocl_inline.specs.declared.trees.Binding.{Binding}
-use Rattle.ocl_inline.specs.declared.trees.FlatArgument.{FlatArgument, Array}
-use Rattle.ocl_inline.specs.declared.trees.FlatArgument as argument
+use Rattle.ocl_inline.specs.declared.trees.FlatArgument.{FlatArgument}
 use Rattle.ocl_inline.specs.declared.trees.FlatExpr.{FlatExpr, Call, Call', Lost, Lost', Builtin, Builtin', Row_of-FlatArgument, end_of-FlatArgument, more_of-FlatArgument, items-the_row-FlatArgument, items_hidden-the_row-FlatArgument-0}
 use Rattle.ocl_inline.specs.declared.trees.FlatStmt.{FlatStmt, Block, Block', For, For', Row_of-FlatStmt, end_of-FlatStmt, more_of-FlatStmt, items-the_row-FlatStmt, items_hidden-the_row-FlatStmt-1}
-use Rattle.ocl_inline.specs.Shapes.{expr_of, stmt_of, value_of, row_args, row_stmts, with_arg, flat_arguments, flat_trees}
-use Rattle.ocl_inline.specs.Trees.{NoFlat, SomeFlat, CallFlat, LostFlat, BuiltinFlat, ForFlat, BlockFlat, NumberArg, NamedArg, AndFlat, written}
+use Rattle.ocl_inline.specs.Shapes.{expr_of, stmt_of, row_args, row_stmts, with_arg, flat_arguments, flat_trees}
+use Rattle.ocl_inline.specs.Trees.{NoFlat, SomeFlat, CallFlat, LostFlat, BuiltinFlat, ForFlat, BlockFlat, AndFlat, written}
 
 row_is : (n : _) (row : Row_of-FlatArgument n) → row_args row ≡ flat_arguments (items-the_row-FlatArgument n row)
 row_is n end_of-FlatArgument = refl

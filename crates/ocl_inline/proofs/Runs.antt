@@ -1,13 +1,13 @@
 -- The flat kernel asks for what the source asks for, at every number of steps, and begins as many turns of loops.
-use Rattle.std.proofs.Common.{◌≡◌, refl, sym, ap, ◌∙◌, ℕ, zero, suc, ◌+◌, List, [], ◌∷◌}
+use Rattle.std.proofs.Common.{◌≡◌, refl, ap, ◌∙◌, ℕ, zero, suc, ◌+◌, List, [], ◌∷◌}
 use Rattle.item_acts.specs.declared.acts.Asked.{Asked}
 use Rattle.item_acts.specs.Machine.{Step, Go, Ask, Stop, asked_at_once, asked_behind, asked}
 use Rattle.ocl_program.specs.Nodes.{FunctionNode}
 use Rattle.ocl_sem.specs.Items.{ItemState, item_step}
-use Rattle.ocl_sem.specs.Settings.{Setting}
-use Rattle.ocl_sem.specs.Source.{SourceTask, source_parts}
-use Rattle.ocl_sem.specs.Tasks as task
-use Rattle.ocl_sem.specs.Tasks.{cost, cost_from, step, task_cost}
+use Rattle.item_settings.specs.Settings.{Setting}
+use Rattle.ocl_sem.specs.Source.{SourceTask}
+use Rattle.task_machine.specs.declared.tasks.Task.TheVariants as task
+use Rattle.task_machine.specs.Tasks.{cost, cost_from, step, task_cost}
 use Rattle.step_machine.specs.Costs.{spent, spent_behind}
 use Rattle.ocl_inline.specs.FlatTasks.{flat_parts}
 use Rattle.ocl_inline.specs.Expansion.{Bodies}

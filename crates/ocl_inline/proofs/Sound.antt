@@ -1,5 +1,5 @@
 -- What the laws of flat kernels stand on, in one record, and that each program of a file has it.
-use Rattle.std.proofs.Common.{◌≡◌, ℕ, ◌≤◌, true, List, Some}
+use Rattle.std.proofs.Common.{◌≡◌, ℕ, ◌≤◌, List, Some}
 use Rattle.std.specs.Prelude.{slice_get}
 use Rattle.ocl_program.specs.declared.functions.CallSite.{CallSite}
 use Rattle.ocl_program.specs.Measures.{measured, own_calls, own_control, own_depth, own_nodes, own_sites, own_variables}

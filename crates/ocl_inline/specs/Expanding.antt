@@ -1,5 +1,5 @@
 -- What the code makes of the parts of a program.
-use Rattle.std.specs.Prelude.{ℕ, ◌+◌, List, [], ◌∷◌, map, Option, None, Some, option_map}
+use Rattle.std.specs.Prelude.{ℕ, ◌+◌, List, map, Option, None, Some, option_map}
 use Rattle.vx_base.specs.declared.types.ParamKind.{ParamKind}
 use Rattle.vx_base.specs.declared.types.ParamKind.TheVariants.{Scalar, Pointer}
 use Rattle.ocl_ast.specs.declared.units.Param.{Param}

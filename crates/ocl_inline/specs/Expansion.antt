@@ -1,6 +1,6 @@
 -- The kernel with its calls expanded: what stands at a call is the body of the function that it leads to, with the numbers that
 -- the call gives it.
-use Rattle.std.specs.Prelude.{ℕ, zero, suc, ◌+◌, count_by, take, slice_get, List, [], ◌∷◌, length, Option, None, Some}
+use Rattle.std.specs.Prelude.{ℕ, zero, suc, ◌+◌, count_by, take, slice_get, List, [], length, Option, None, Some}
 use Rattle.vx_base.specs.declared.types.ParamKind.{ParamKind}
 use Rattle.vx_base.specs.declared.types.ParamKind.TheVariants.{Scalar, Pointer}
 use Rattle.ocl_ast.specs.declared.units.Param.{Param}

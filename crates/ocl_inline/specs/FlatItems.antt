@@ -4,32 +4,19 @@ use Rattle.item_acts.specs.declared.acts.Asked.{Asked}
 use Rattle.item_acts.specs.declared.acts.Bound.{Bound}
 use Rattle.item_acts.specs.declared.acts.Range.{Range}
 use Rattle.item_acts.specs.Machine.{asked}
-use Rattle.ocl_program.specs.declared.exprs.ArrayRef.{ArrayRef}
-use Rattle.ocl_program.specs.declared.exprs.ArrayRef.TheVariants.{Parameter, Declared}
 use Rattle.ocl_program.specs.Nodes.{FunctionNode}
-use Rattle.ocl_sem.specs.declared.settings.ItemArray.{ItemArray}
 use Rattle.ocl_sem.specs.Items.{kernel_asks}
-use Rattle.ocl_sem.specs.Settings.{Setting, array_bound, bound_values, declared_array, group_number, id_of}
+use Rattle.item_settings.specs.Settings.{Setting, bound_values, setting_of}
 use Rattle.ocl_sem.specs.Spending.{turns_begun}
-use Rattle.ocl_sem.specs.Tasks.{State, cost, step}
+use Rattle.task_machine.specs.Tasks.{State, cost, step}
 use Rattle.step_machine.specs.Costs.{spent}
 use Rattle.ocl_inline.specs.Expansion.{kernel_flat}
 use Rattle.ocl_inline.specs.FlatTasks.{flat_parts, stmts_tasks}
 use Rattle.ocl_inline.specs.Trees.{FlatExpr, FlatKernel, FlatStmt}
 
--- the array that a flat kernel names so
-abbrev pub flat_array : FlatKernel → List Bound → ArrayRef → ItemArray
-flat_array flat bounds (Parameter k) = array_bound (slice_get flat.params k) (slice_get bounds k)
-flat_array flat bounds (Declared k) = declared_array flat.params k (slice_get flat.arrays k)
-
 -- what an item knows of its launch
 abbrev pub flat_setting : FlatKernel → Range → List Bound → ℕ → Setting
-flat_setting flat range bounds item = record {
-  group = group_number range item;
-  dims = range.dims;
-  id = id_of range item;
-  array = flat_array flat bounds;
-}
+flat_setting flat range bounds item = setting_of flat.params flat.arrays range bounds item
 
 -- An item's start: the kernel's body is left to do, the scalar parameters have the values that they are bound to, and every
 -- other variable is 0.

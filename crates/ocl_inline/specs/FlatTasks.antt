@@ -1,5 +1,5 @@
 -- How a flat kernel becomes tasks of the machine: expressions and statements from left to right.
-use Rattle.std.specs.Prelude.{ℕ, Bool, List, [], ◌∷◌, Option, None, Some}
+use Rattle.std.specs.Prelude.{ℕ, Bool, List, ◌∷◌, None, Some}
 use Rattle.vx_base.specs.declared.types.Elem.{Elem}
 use Rattle.ocl_ast.specs.declared.exprs.BinOp.{BinOp}
 use Rattle.ocl_ast.specs.declared.exprs.BinOp.TheVariants.{Add, Sub}
@@ -7,8 +7,10 @@ use Rattle.ocl_ast.specs.declared.stmts.AssignOp.{AssignOp}
 use Rattle.ocl_ast.specs.declared.stmts.AssignOp.TheVariants.{Set, With, Up, Down}
 use Rattle.ocl_ast.specs.declared.units.Gives.{Gives}
 use Rattle.ocl_ast.specs.declared.units.Gives.TheVariants.{Nothing, Value}
-use Rattle.ocl_sem.specs.Tasks as task
-use Rattle.ocl_sem.specs.Tasks.{Task, Loop, Parts}
+use Rattle.task_machine.specs.declared.tasks.Task.TheVariants as task
+use Rattle.task_machine.specs.declared.tasks.Task.{Task}
+use Rattle.task_machine.specs.Loops.{Loop}
+use Rattle.task_machine.specs.Tasks.{Parts}
 use Rattle.ocl_inline.specs.declared.trees.Binding.{Binding}
 use Rattle.ocl_inline.specs.declared.trees.Binding.TheVariants.{Variable as ToVariable, Dropped}
 use Rattle.ocl_inline.specs.Trees.{FlatValue, NoFlat, SomeFlat, value_of, FlatExpr, NumberFlat, VariableFlat, UnaryFlat, BinaryFlat, BothFlat, EitherFlat, ChooseFlat, CastFlat, LoadFlat, CallFlat, LostFlat, BuiltinFlat, ParenFlat, FlatArgs, NoFlatArgs, NumberArg, NamedArg, FlatStmt, DeclareFlat, LocalArrayFlat, SetVariableFlat, SetElementFlat, CallStmtFlat, BarrierFlat, IfFlat, IfElseFlat, WhileFlat, DoFlat, ForFlat, BreakFlat, ContinueFlat, ReturnFlat, BlockFlat, EmptyFlat, FlatStmts, NoFlats, AndFlat}

@@ -3,9 +3,9 @@ use Rattle.std.specs.Prelude.{◌≡◌, ℕ, List, length, Some, slice_get}
 use Rattle.item_acts.specs.Machine.{asked}
 use Rattle.ocl_program.specs.Nodes.{FunctionNode}
 use Rattle.ocl_sem.specs.Items.{ItemState, item_step}
-use Rattle.ocl_sem.specs.Settings.{Setting}
+use Rattle.item_settings.specs.Settings.{Setting}
 use Rattle.ocl_sem.specs.Source.{Scope}
-use Rattle.ocl_sem.specs.Tasks.{cost, step}
+use Rattle.task_machine.specs.Tasks.{cost, step}
 use Rattle.program_laws.specs.Laws.{HaveNoRecursion}
 use Rattle.step_machine.specs.Costs.{spent}
 use Rattle.ocl_inline.specs.FlatTasks.{flat_parts}

@@ -1,6 +1,5 @@
 -- Which plain tree a tree of `src/` is.
-use Rattle.std.specs.Prelude.{ℕ, Bool, Option, Some, None, List, [], ◌∷◌, map}
-use Rattle.ocl_inline.specs.declared.trees.Binding.{Binding}
+use Rattle.std.specs.Prelude.{Option, Some, None, List, [], ◌∷◌}
 use Rattle.ocl_inline.specs.declared.trees.Flat.{Flat}
 use Rattle.ocl_inline.specs.declared.trees.FlatExpr.{FlatExpr, Number, Variable, Unary', Binary', Both', Either', Choose', Cast', Load', Call', Lost', Builtin', Paren', Row_of-FlatArgument, end_of-FlatArgument, more_of-FlatArgument}
 use Rattle.ocl_inline.specs.declared.trees.FlatArgument.{FlatArgument, Array}

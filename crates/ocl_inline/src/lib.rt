@@ -12,3 +12,6 @@ pub mod nodes;
 #[cfg(test)]
 mod tests;
 pub mod trees;
+
+pub use kernels::expand;
+pub use trees::{Binding, Flat, FlatArgument, FlatExpr, FlatStmt};

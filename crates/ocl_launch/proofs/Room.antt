@@ -1,7 +1,7 @@
 -- The arrays of a kernel of a program, whose parameters stand for what fits them, have room.
-use Rattle.std.proofs.Common.{◌≡◌, ℕ, zero, suc, ◌*◌, ◌^◌, ◌≤◌, ◌==◌, true, List, [], ◌∷◌, length, zip, Option, None, Some, refl, arith}
+use Rattle.std.proofs.Common.{◌≡◌, ℕ, zero, suc, ◌*◌, ◌^◌, ◌≤◌, ◌==◌, true, List, [], ◌∷◌, length, zip, Option, None, Some, refl, subst, arith}
 use Rattle.std.proofs.lemmas.Bool.{and_parts, leb-true}
-use Rattle.std.specs.Prelude.{slice_get}
+use Rattle.std.specs.Prelude.{option_map, slice_get}
 use Rattle.std.specs.List.{list_all}
 use Rattle.vx_base.specs.Values.{elem_bytes}
 use Rattle.vx_base.specs.declared.types.Elem.{Elem}
@@ -14,10 +14,16 @@ use Rattle.ocl_ast.specs.declared.units.Param.{Param}
 use Rattle.ocl_program.specs.declared.exprs.ArrayRef.TheVariants.{Parameter, Declared}
 use Rattle.ocl_program.specs.declared.functions.LocalArray.{LocalArray}
 use Rattle.ocl_program.specs.Nodes.{FunctionNode}
-use Rattle.ocl_sem.specs.declared.settings.ItemArray.{ItemArray}
+use Rattle.item_settings.specs.declared.arrays.ItemArray.{ItemArray}
 use Rattle.ocl_sem.specs.Launched.{IsRoomy}
-use Rattle.ocl_sem.specs.Settings.{array_bound, bound_array, declared_array}
-use Rattle.ocl_launch.specs.Fitting.{is_fitting, are_fitting}
+use Rattle.item_settings.specs.Settings.{array_bound, bound_array, declared_array}
+use Rattle.item_settings.specs.Views as views
+use Rattle.ocl_types.specs.Functions.{IsProgram}
+use Rattle.program_laws.proofs.Bodies.{arrays_small}
+use Rattle.ocl_inline.specs.Expansion.{kernel_flat}
+use Rattle.ocl_inline.specs.FlatItems.{flat_at}
+use Rattle.ocl_inline.specs.Trees.{FlatKernel}
+use Rattle.ocl_launch.specs.Fitting.{is_fitting, are_fitting, params_at, params_of}
 
 -- an array ends within 2 ^ 32 bytes
 abbrev HasRoom : ItemArray → Type 0
@@ -60,3 +66,18 @@ pub room_of : (kernel : FunctionNode) (bounds : List Bound) → are_fitting kern
     → IsRoomy kernel bounds
 room_of kernel bounds fit few (Parameter k) = bound_room kernel.params bounds k (and_parts (length kernel.params == length bounds) _ fit).1
 room_of kernel bounds fit few (Declared k) = declared_room kernel.params k (slice_get kernel.arrays k) (few k)
+
+some_same : {A : Type 0} (x y : A) → Some x ≡ Some y → x ≡ y
+some_same x y h = cc
+
+flat_found : (program : List FunctionNode) → IsProgram program → (k : ℕ) (found : Option FunctionNode) (flat : FlatKernel) (bounds : List Bound) → slice_get program k ≡ found
+    → option_map (kernel_flat program k) found ≡ Some flat → are_fitting (params_of found) bounds ≡ true → views.IsRoomy flat.params flat.arrays bounds
+flat_found program is k None flat bounds at e fit = absurd (cc)
+flat_found program is k (Some f) flat bounds at e fit =
+    subst (λ (x : FlatKernel). views.IsRoomy x.params x.arrays bounds) (some_same (kernel_flat program k f) flat e)
+    (room_of f bounds fit (λ i a h. (arrays_small program is k i f a at h).1))
+
+-- the arrays of a kernel with its calls expanded are the kernel's
+pub flat_room : (program : List FunctionNode) → IsProgram program → (k : ℕ) (flat : FlatKernel) (bounds : List Bound) → flat_at program k ≡ Some flat
+    → are_fitting (params_at program k) bounds ≡ true → views.IsRoomy flat.params flat.arrays bounds
+flat_room program is k flat bounds e fit = flat_found program is k (slice_get program k) flat bounds refl e fit

@@ -1,11 +1,17 @@
+//! Launches of kernels of a program.
 ghost use Rattle.std.specs.Prelude.{◌≡◌, ◌==◌, ◌&&◌, ◌<◌, Some, length, map, slice_get, true, zip};
 ghost use Rattle.std.specs.List.{list_all};
 ghost use Rattle.ocl_program.specs.Shapes.{function_node};
 ghost use Rattle.ocl_launch.specs.Fitting.{are_fitting, has_room as has_room_of, is_fitting as is_fitting_of, params_at};
 ghost use Rattle.ocl_sem.specs.LaunchViews.{launch_in};
+ghost use Rattle.ocl_inline.specs.FlatItems.{flat_at};
+ghost use Rattle.ocl_inline.specs.Shapes.{kernel_of};
+ghost use Rattle.flat_items.specs.Launches.{launch_of};
 
+use flat_items::FlatItems;
 use item_acts::{Bound, BoundList, Range};
 use ocl_ast::Param;
+use ocl_inline::Flat;
 use ocl_sem::Items;
 use ocl_types::Program;
 use vx_base::{Elem, ParamKind, Size};
@@ -70,4 +76,20 @@ pub fn items_of<'a>(program: &'a Program, kernel: u32, range: Range, bounds: Bou
 {
     let functions = program.functions.as_slice();
     Items::of(functions, &functions[kernel as usize], range, bounds)
+}
+
+/// The work-items of a launch of a kernel with its calls expanded, whose parameters stand for these bounds in order.
+pub fn flat_items_of<'a>(
+    program: &Program,
+    kernel: u32,
+    flat: &'a Flat,
+    range: Range,
+    bounds: BoundList,
+) -> FlatItems<'a>
+    requires exists { kernel < length program.now.functions.items }
+    requires kinds { are_fitting (params_at (map function_node program.now.functions.items) kernel) bounds ≡ true }
+    requires flat { flat_at (map function_node program.now.functions.items) kernel ≡ Some (kernel_of flat.now) }
+    ensures { launch_of result ≡ record { kernel = kernel_of flat.now; range = range; bounds = bounds } }
+{
+    FlatItems::of(flat, range, bounds)
 }

@@ -9,9 +9,12 @@ use Rattle.item_acts.specs.Machine.{Step, Go, Ask, Stop, asked_at_once, asked_be
 use Rattle.ocl_program.specs.declared.exprs.ArrayRef.{ArrayRef}
 use Rattle.ocl_sem.specs.Items.{IsElement, IsInArrays, item_start}
 use Rattle.ocl_sem.specs.Launched.{StaysInArrays}
-use Rattle.ocl_sem.specs.Settings.{Setting, elem_size, element_in, setting_of}
+use Rattle.item_settings.specs.Settings.{Setting, elem_size, element_in}
+use Rattle.ocl_sem.specs.Settings.{setting_of}
 use Rattle.ocl_sem.specs.Source.{source_parts}
-use Rattle.ocl_sem.specs.Tasks.{Number, Variable, Unary, Binary, Fit, Call, Truth, AndThen, OrElse, Choose, Load, Reread, Store, Clear, Assign, Discard, Wait, Branch, Enter, Decide, Begin, Again, Invoke, CallEnd, Break, Continue, Return, Task, Parts, State, load_step, store_step, step, step_from, task_step, onward}
+use Rattle.task_machine.specs.declared.tasks.Task.{Task}
+use Rattle.task_machine.specs.declared.tasks.Task.TheVariants.{Number, Variable, Unary, Binary, Fit, Call, Truth, AndThen, OrElse, Choose, Load, Reread, Store, Clear, Assign, Discard, Wait, Branch, Enter, Decide, Begin, Again, Invoke, CallEnd, Break, Continue, Return}
+use Rattle.task_machine.specs.Tasks.{Parts, State, load_step, store_step, step, step_from, task_step, onward}
 
 -- what a step asks for is within the arrays
 abbrev ActsIn : {S : Type 0} → Setting → Step S → Type 0

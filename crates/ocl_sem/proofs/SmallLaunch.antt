@@ -1,19 +1,17 @@
 -- A launch over one small array has room.
-use Rattle.std.proofs.Common.{◌≡◌, ℕ, zero, suc, ◌*◌, ◌^◌, ◌≤◌, List, [], ◌∷◌, Option, None, Some, ap, sym, subst, arith}
+use Rattle.std.proofs.Common.{◌≡◌, ℕ, zero, suc, ◌*◌, ◌^◌, ◌≤◌, List, [], ◌∷◌, Option, None, Some, sym, subst, arith}
 use Rattle.vx_base.specs.Values.{elem_bytes}
 use Rattle.vx_base.specs.declared.types.Elem.{Elem}
 use Rattle.vx_base.specs.declared.types.Elem.TheVariants.{Char, Uchar, Short, Ushort, Int, Uint}
 use Rattle.vx_base.specs.declared.types.ParamKind.{ParamKind}
 use Rattle.vx_base.specs.declared.types.ParamKind.TheVariants.{Scalar, Pointer}
-use Rattle.item_acts.specs.declared.acts.Bound.{Bound}
 use Rattle.item_acts.specs.declared.acts.Bound.TheVariants.{Array}
 use Rattle.ocl_ast.specs.declared.units.Param.{Param}
-use Rattle.ocl_program.specs.declared.exprs.ArrayRef.{ArrayRef}
 use Rattle.ocl_program.specs.declared.exprs.ArrayRef.TheVariants.{Parameter, Declared}
 use Rattle.ocl_program.specs.declared.functions.LocalArray.{LocalArray}
 use Rattle.ocl_program.specs.Nodes.{FunctionNode}
 use Rattle.ocl_sem.specs.Launched.{IsRoomy}
-use Rattle.ocl_sem.specs.Settings.{array_bound, bound_array, declared_array}
+use Rattle.item_settings.specs.Settings.{array_bound, bound_array, declared_array}
 use Rattle.std.specs.Prelude.{slice_get}
 
 four_of : (elem : Elem) → 4 * elem_bytes elem ≤ 2 ^ 32

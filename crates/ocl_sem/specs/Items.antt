@@ -10,9 +10,10 @@ use Rattle.item_acts.specs.declared.acts.Range.{Range}
 use Rattle.item_acts.specs.Machine.{Step, asked}
 use Rattle.ocl_program.specs.declared.exprs.ArrayRef.{ArrayRef}
 use Rattle.ocl_program.specs.Nodes.{FunctionNode}
-use Rattle.ocl_sem.specs.Settings.{Setting, setting_of, bound_values, elem_size, element_in}
+use Rattle.item_settings.specs.Settings.{Setting, bound_values, elem_size, element_in}
+use Rattle.ocl_sem.specs.Settings.{setting_of}
 use Rattle.ocl_sem.specs.Source.{PlacedExpr, PlacedStmt, Scope, source_parts, stmts_tasks}
-use Rattle.ocl_sem.specs.Tasks.{State, step}
+use Rattle.task_machine.specs.Tasks.{State, step}
 
 -- the machine of a program
 abbrev pub ItemState : Type 0

@@ -1,16 +1,15 @@
 -- The work-items of a launch of a kernel, and one of them with its answers.
-use Rattle.std.specs.Prelude.{◌≡◌, ℕ, ◌+◌, ◌*◌, ◌^◌, ◌≤◌, List}
-use Rattle.vx_base.specs.Values.{elem_bytes}
+use Rattle.std.specs.Prelude.{◌≡◌, ℕ, ◌+◌, List}
 use Rattle.item_acts.specs.declared.acts.Action.{Action}
 use Rattle.item_acts.specs.declared.acts.Asked.{Asked}
 use Rattle.item_acts.specs.declared.acts.Asked.TheVariants.{Act}
 use Rattle.item_acts.specs.declared.acts.Bound.{Bound}
 use Rattle.item_acts.specs.declared.acts.Range.{Range}
 use Rattle.item_acts.proofs.Machine.{settles}
-use Rattle.ocl_program.specs.declared.exprs.ArrayRef.{ArrayRef}
 use Rattle.ocl_program.specs.Nodes.{FunctionNode}
 use Rattle.ocl_sem.specs.Items.{IsInArrays, item_start, item_step, kernel_asks}
-use Rattle.ocl_sem.specs.Settings.{array_of, setting_of}
+use Rattle.item_settings.specs.Views as views
+use Rattle.ocl_sem.specs.Settings.{setting_of}
 
 -- the functions of the file, the kernel, its work-items, and what its parameters stand for
 pub record Launched : Type 0 where
@@ -25,7 +24,7 @@ launched_asks l item answers fuel = kernel_asks l.program l.kernel l.range l.bou
 
 -- each array of the kernel ends within 2 ^ 32 bytes
 abbrev pub IsRoomy : FunctionNode → List Bound → Type 0
-IsRoomy kernel bounds = (array : ArrayRef) → (array_of kernel bounds array).count * elem_bytes (array_of kernel bounds array).elem ≤ 2 ^ 32
+IsRoomy kernel bounds = views.IsRoomy kernel.params kernel.arrays bounds
 
 -- more small steps never change what is asked
 pub launched_settles : (l : Launched) (item : ℕ) (answers : List ℕ) (fuel more : ℕ) (action : Action)

@@ -1,6 +1,4 @@
-pub mod Operators
 pub mod Settings
-pub mod Tasks
 pub mod Source
 pub mod Items
 pub mod Views

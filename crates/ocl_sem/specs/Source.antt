@@ -15,8 +15,10 @@ use Rattle.ocl_program.specs.declared.exprs.ArrayRef.TheVariants.{Parameter, Dec
 use Rattle.ocl_program.specs.declared.functions.CallSite.{CallSite}
 use Rattle.ocl_program.specs.Measures.{cut}
 use Rattle.ocl_program.specs.Nodes.{ExprNode, NumberNode, VariableNode, UnaryNode, BinaryNode, BothNode, EitherNode, ChooseNode, CastNode, LoadNode, CallNode, BuiltinNode, ParenNode, ArgNodes, NoArgs, ValueArg, ArrayArg, StmtNode, DeclareNode, LocalArrayNode, SetVariableNode, SetElementNode, CallStmtNode, BarrierNode, IfNode, IfElseNode, WhileNode, DoNode, ForNode, BreakNode, ContinueNode, ReturnNode, BlockNode, EmptyNode, StmtNodes, NoStmts, AndStmt, FunctionNode}
-use Rattle.ocl_sem.specs.Tasks as task
-use Rattle.ocl_sem.specs.Tasks.{Task, Loop, Parts}
+use Rattle.task_machine.specs.declared.tasks.Task.TheVariants as task
+use Rattle.task_machine.specs.declared.tasks.Task.{Task}
+use Rattle.task_machine.specs.Loops.{Loop}
+use Rattle.task_machine.specs.Tasks.{Parts}
 
 -- An active call: its function, where the function's variables and barriers begin in the numbering of the kernel, and which
 -- array of the kernel each of its parameters names. A kernel's own parameters name themselves. Numbers are cut at 2 ^ 32 - 1,

@@ -6,7 +6,7 @@ use Rattle.ocl_program.specs.Nodes.{FunctionNode}
 use Rattle.step_machine.specs.Costs.{spent}
 use Rattle.ocl_sem.specs.Items.{item_start, item_step}
 use Rattle.ocl_sem.specs.Settings.{setting_of}
-use Rattle.ocl_sem.specs.Tasks.{cost}
+use Rattle.task_machine.specs.Tasks.{cost}
 
 -- how many turns of loops an item begins in its first steps, with these answers
 abbrev pub turns_begun : List FunctionNode → FunctionNode → Range → List Bound → ℕ → List ℕ → ℕ → ℕ

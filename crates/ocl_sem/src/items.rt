@@ -1,12 +1,21 @@
 //! The work-items of a launch, and one of them.
 ghost use Rattle.ocl_program.specs.Shapes.{function_node};
+ghost use Rattle.std.specs.Prelude.{◌≡◌, IfOk, map};
+ghost use Rattle.ocl_sem.specs.Items.{item_start};
 ghost use Rattle.ocl_sem.specs.Launched.{IsRoomy};
+ghost use Rattle.ocl_sem.specs.Views.{expr_of, stmt_of};
+ghost use Rattle.task_machine.specs.Views.{state_of};
 
-use crate::frames::State;
-use crate::settings::Setting;
-use item_acts::{Asked, BoundList, ItemCode, Range};
+use crate::placed::{PlacedExpr, PlacedStmt};
+use crate::scopes::Scope;
+use crate::statements::push_stmts;
+use crate::unfold::Source;
+use item_acts::{Asked, Bound, BoundList, ItemCode, Range};
+use item_settings::{Setting, Stack, bound_values};
 use ocl_program::TypedFunction;
 use std::alloc::{AllocError, Global};
+use std::rc::Rc;
+use task_machine::State;
 use vx_base::Memory;
 
 /// All work-items of a launch of a kernel. Each array of the kernel has at most 2^32 bytes.
@@ -24,7 +33,6 @@ pub struct Items<'a> {
 }
 
 impl<'a> Items<'a> {
-    ghost use Rattle.std.specs.Prelude.{◌≡◌, IfOk, map};
     ghost use Rattle.ocl_sem.specs.Launched.{Launched, launched_asks};
     ghost use Rattle.ocl_sem.specs.LaunchViews.{launch_in};
 
@@ -57,15 +65,44 @@ impl<'a> Items<'a> {
     ) -> Result<Asked, AllocError>
         ensures { IfOk result (λ asked. asked ≡ launched_asks (launch_in self.now) item answers.now fuel) }
     {
+        let source = Source {
+            alloc,
+            program: self.program,
+        };
         let at = Setting {
-            kernel: self.kernel,
+            params: self.kernel.params.as_slice(),
+            arrays: self.kernel.arrays.as_slice(),
             range: self.range,
             bounds: self.bounds.as_slice(),
             item,
         };
-        let mut state = State::start(alloc, self.program, &at)?;
-        state.run(alloc, &at, answers, fuel)
+        let mut state = start(&source, self.kernel, at.bounds)?;
+        state.run(alloc, &source, &at, answers, fuel)
     }
+}
+
+/// A work-item of a kernel before its first step.
+fn start<'a>(
+    source: &Source<'a>,
+    kernel: &'a TypedFunction,
+    bounds: &[Bound],
+) -> Result<State<PlacedExpr<'a>, PlacedStmt<'a>>, AllocError>
+    ensures { IfOk result (λ state. state_of expr_of stmt_of state ≡ item_start (map function_node source.now.program.now) (function_node kernel.now) bounds.now) }
+{
+    let alloc = source.alloc;
+    let scope = Scope {
+        function: kernel,
+        variables: 0,
+        sites: 0,
+        arrays: Vec::new(alloc),
+    };
+    let Ok(scope) = Rc::new(alloc, scope) else {
+        return Err(AllocError);
+    };
+    let mut tasks = Stack::new(alloc);
+    push_stmts(&mut tasks, source, &scope, kernel.body.as_slice())?;
+    let values = bound_values(alloc, kernel.params.as_slice(), bounds)?;
+    Ok(State::start(alloc, tasks, values))
 }
 
 impl<'a> ItemCode for Items<'a> {

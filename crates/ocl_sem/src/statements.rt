@@ -2,25 +2,27 @@
 ghost use Rattle.std.specs.Prelude.{◌≡◌, OnOk, map, option_map};
 ghost use Rattle.ocl_program.specs.Shapes.{function_node, node_of, stmt_node, typed_stmts};
 ghost use Rattle.ocl_sem.specs.Source.{assigned_tasks, combined_tasks, declared_tasks, given_tasks, head_tasks, operand_tasks, return_tasks, stmt_tasks, stmts_tasks};
-ghost use Rattle.ocl_sem.specs.Views.{Puts, branch_tasks, do_tasks, entered_tasks, loop_of, scope_of, task_of, test_of};
+ghost use Rattle.ocl_sem.specs.Views.{branch_tasks, do_tasks, entered_tasks, scope_of, source_loop, source_task, source_tasks};
 
+use crate::placed::{Part, PlacedStmt, SourceLoop, SourceTask, SourceTasks, place_loop};
 use crate::scopes::Scope;
-use crate::tasks::Task;
-use crate::unfold::{Tasks, push_value};
+use crate::unfold::{Source, push_value};
 use ocl_ast::{AssignOp, BinOp, Gives};
-use ocl_program::{TypedExpr, TypedFunction, TypedStmt};
+use ocl_program::{TypedExpr, TypedStmt};
 use std::alloc::AllocError;
+use std::rc::Rc;
+use task_machine::Task;
 use vx_base::Elem;
 
 /// The tasks of a statement.
 #[cycle(statements)]
 pub fn push_stmt<'a>(
-    tasks: &mut Tasks<'a>,
-    program: &'a [TypedFunction],
-    scope: &Scope<'a>,
+    tasks: &mut SourceTasks<'a>,
+    source: &Source<'a>,
+    scope: &Rc<Scope<'a>>,
     stmt: &'a TypedStmt,
 ) -> Result<(), AllocError>
-    ensures { OnOk result (Puts (scope_of scope.now) tasks.old tasks.new (stmt_tasks (map function_node program.now) (scope_of scope.now) (stmt_node stmt.now))) }
+    ensures { OnOk result (source_tasks tasks.new ≡ stmt_tasks (map function_node source.now.program.now) (scope_of scope.now.value) (stmt_node stmt.now) (source_tasks tasks.old)) }
 {
     match stmt {
         TypedStmt::Declare {
@@ -29,7 +31,7 @@ pub fn push_stmt<'a>(
             value,
         } => push_declaration(
             tasks,
-            program,
+            source,
             scope,
             scope.variable(*variable),
             *elem,
@@ -49,7 +51,7 @@ pub fn push_stmt<'a>(
             })?;
             push_assigned(
                 tasks,
-                program,
+                source,
                 scope,
                 *op,
                 *unsigned,
@@ -71,31 +73,44 @@ pub fn push_stmt<'a>(
             tasks.push(Task::Store { array, pos })?;
             push_assigned(
                 tasks,
-                program,
+                source,
                 scope,
                 *op,
                 *unsigned,
                 Task::Reread { array, pos },
                 value,
             )?;
-            push_value(tasks, program, scope, place)
+            push_value(tasks, source, scope, place)
         }
         TypedStmt::Call(call) => {
             tasks.push(Task::Discard)?;
-            push_value(tasks, program, scope, call)
+            push_value(tasks, source, scope, call)
         }
         TypedStmt::Barrier { site } => tasks.push(Task::Wait(scope.site(*site))),
-        TypedStmt::If { test, .. } => push_branch(tasks, program, scope, test, stmt),
-        TypedStmt::While { .. } => push_entered(tasks, program, scope, stmt),
-        TypedStmt::Do { .. } => push_do(tasks, scope, stmt),
-        TypedStmt::For { first, .. } => {
-            push_entered(tasks, program, scope, stmt)?;
-            push_stmts(tasks, program, scope, first.as_slice())
+        TypedStmt::If { test, yes, no } => {
+            let other = match no {
+                Some(other) => Some(&**other),
+                None => None,
+            };
+            push_branch(tasks, source, scope, test, yes, other)
+        }
+        TypedStmt::While { test, body } => {
+            push_entered(tasks, source, scope, Some(test), &[], body)
+        }
+        TypedStmt::Do { body, test } => push_do(tasks, source, scope, body, test),
+        TypedStmt::For {
+            first,
+            test,
+            step,
+            body,
+        } => {
+            push_entered(tasks, source, scope, test.as_ref(), step.as_slice(), body)?;
+            push_stmts(tasks, source, scope, first.as_slice())
         }
         TypedStmt::Break => tasks.push(Task::Break),
         TypedStmt::Continue => tasks.push(Task::Continue),
-        TypedStmt::Return(value) => push_return(tasks, program, scope, value),
-        TypedStmt::Block(items) => push_stmts(tasks, program, scope, items.as_slice()),
+        TypedStmt::Return(value) => push_return(tasks, source, scope, value),
+        TypedStmt::Block(items) => push_stmts(tasks, source, scope, items.as_slice()),
         TypedStmt::LocalArray { .. } | TypedStmt::Empty => Ok(()),
     }
 }
@@ -103,34 +118,34 @@ pub fn push_stmt<'a>(
 /// The tasks of statements in order.
 #[cycle(statements)]
 pub fn push_stmts<'a>(
-    tasks: &mut Tasks<'a>,
-    program: &'a [TypedFunction],
-    scope: &Scope<'a>,
+    tasks: &mut SourceTasks<'a>,
+    source: &Source<'a>,
+    scope: &Rc<Scope<'a>>,
     stmts: &'a [TypedStmt],
 ) -> Result<(), AllocError>
-    ensures { OnOk result (Puts (scope_of scope.now) tasks.old tasks.new (stmts_tasks (map function_node program.now) (scope_of scope.now) (typed_stmts stmts.now))) }
+    ensures { OnOk result (source_tasks tasks.new ≡ stmts_tasks (map function_node source.now.program.now) (scope_of scope.now.value) (typed_stmts stmts.now) (source_tasks tasks.old)) }
 {
     for k in (0..stmts.len()).rev() {
-        push_stmt(tasks, program, scope, &stmts[k])?;
+        push_stmt(tasks, source, scope, &stmts[k])?;
     }
     Ok(())
 }
 
 /// A variable, by its number in the kernel, begins to live.
 fn push_declaration<'a>(
-    tasks: &mut Tasks<'a>,
-    program: &'a [TypedFunction],
-    scope: &Scope<'a>,
+    tasks: &mut SourceTasks<'a>,
+    source: &Source<'a>,
+    scope: &Rc<Scope<'a>>,
     variable: u32,
     elem: Elem,
     value: &'a Option<TypedExpr>,
 ) -> Result<(), AllocError>
-    ensures { OnOk result (Puts (scope_of scope.now) tasks.old tasks.new (declared_tasks (map function_node program.now) (scope_of scope.now) variable elem (option_map node_of value.now))) }
+    ensures { OnOk result (source_tasks tasks.new ≡ declared_tasks (map function_node source.now.program.now) (scope_of scope.now.value) variable elem (option_map node_of value.now) (source_tasks tasks.old)) }
 {
     match value {
         Some(expr) => {
             tasks.push(Task::Assign { variable, elem })?;
-            push_value(tasks, program, scope, expr)?;
+            push_value(tasks, source, scope, expr)?;
             tasks.push(Task::Clear(variable))
         }
         None => tasks.push(Task::Clear(variable)),
@@ -139,157 +154,148 @@ fn push_declaration<'a>(
 
 /// The right side of an assignment; of `++` and `--` it is 1.
 fn push_operand<'a>(
-    tasks: &mut Tasks<'a>,
-    program: &'a [TypedFunction],
-    scope: &Scope<'a>,
+    tasks: &mut SourceTasks<'a>,
+    source: &Source<'a>,
+    scope: &Rc<Scope<'a>>,
     value: &'a Option<TypedExpr>,
 ) -> Result<(), AllocError>
-    ensures { OnOk result (Puts (scope_of scope.now) tasks.old tasks.new (operand_tasks (map function_node program.now) (scope_of scope.now) (option_map node_of value.now))) }
+    ensures { OnOk result (source_tasks tasks.new ≡ operand_tasks (map function_node source.now.program.now) (scope_of scope.now.value) (option_map node_of value.now) (source_tasks tasks.old)) }
 {
     match value {
-        Some(expr) => push_value(tasks, program, scope, expr),
+        Some(expr) => push_value(tasks, source, scope, expr),
         None => tasks.push(Task::Number(1)),
     }
 }
 
 /// The new value of a target, where a task has its value before.
 fn push_assigned<'a>(
-    tasks: &mut Tasks<'a>,
-    program: &'a [TypedFunction],
-    scope: &Scope<'a>,
+    tasks: &mut SourceTasks<'a>,
+    source: &Source<'a>,
+    scope: &Rc<Scope<'a>>,
     op: AssignOp,
     unsigned: bool,
-    before: Task<'a>,
+    before: SourceTask<'a>,
     value: &'a Option<TypedExpr>,
 ) -> Result<(), AllocError>
-    ensures { OnOk result (Puts (scope_of scope.now) tasks.old tasks.new (assigned_tasks op unsigned (task_of (scope_of scope.now) before.entry) (operand_tasks (map function_node program.now) (scope_of scope.now) (option_map node_of value.now)))) }
+    ensures { OnOk result (source_tasks tasks.new ≡ assigned_tasks op unsigned (source_task before.entry) (operand_tasks (map function_node source.now.program.now) (scope_of scope.now.value) (option_map node_of value.now)) (source_tasks tasks.old)) }
 {
     match op {
-        AssignOp::Set => push_operand(tasks, program, scope, value),
-        AssignOp::With(op) => push_combined(tasks, program, scope, op, unsigned, before, value),
-        AssignOp::Up => push_combined(tasks, program, scope, BinOp::Add, unsigned, before, value),
-        AssignOp::Down => push_combined(tasks, program, scope, BinOp::Sub, unsigned, before, value),
+        AssignOp::Set => push_operand(tasks, source, scope, value),
+        AssignOp::With(op) => push_combined(tasks, source, scope, op, unsigned, before, value),
+        AssignOp::Up => push_combined(tasks, source, scope, BinOp::Add, unsigned, before, value),
+        AssignOp::Down => push_combined(tasks, source, scope, BinOp::Sub, unsigned, before, value),
     }
 }
 
 /// The value of an operator on the value before and the right side.
 fn push_combined<'a>(
-    tasks: &mut Tasks<'a>,
-    program: &'a [TypedFunction],
-    scope: &Scope<'a>,
+    tasks: &mut SourceTasks<'a>,
+    source: &Source<'a>,
+    scope: &Rc<Scope<'a>>,
     op: BinOp,
     unsigned: bool,
-    before: Task<'a>,
+    before: SourceTask<'a>,
     value: &'a Option<TypedExpr>,
 ) -> Result<(), AllocError>
-    ensures { OnOk result (Puts (scope_of scope.now) tasks.old tasks.new (combined_tasks op unsigned (task_of (scope_of scope.now) before.entry) (operand_tasks (map function_node program.now) (scope_of scope.now) (option_map node_of value.now)))) }
+    ensures { OnOk result (source_tasks tasks.new ≡ combined_tasks op unsigned (source_task before.entry) (operand_tasks (map function_node source.now.program.now) (scope_of scope.now.value) (option_map node_of value.now)) (source_tasks tasks.old)) }
 {
     tasks.push(Task::Binary { op, unsigned })?;
-    push_operand(tasks, program, scope, value)?;
+    push_operand(tasks, source, scope, value)?;
     tasks.push(before)
 }
 
 /// The test of an `if`, and then the choice of its branch.
 fn push_branch<'a>(
-    tasks: &mut Tasks<'a>,
-    program: &'a [TypedFunction],
-    scope: &Scope<'a>,
+    tasks: &mut SourceTasks<'a>,
+    source: &Source<'a>,
+    scope: &Rc<Scope<'a>>,
     test: &'a TypedExpr,
-    stmt: &'a TypedStmt,
+    one: &'a TypedStmt,
+    other: Option<&'a TypedStmt>,
 ) -> Result<(), AllocError>
-    ensures { OnOk result (Puts (scope_of scope.now) tasks.old tasks.new (branch_tasks (map function_node program.now) (scope_of scope.now) (node_of test.now) (stmt_node stmt.now))) }
+    ensures { OnOk result (source_tasks tasks.new ≡ branch_tasks (map function_node source.now.program.now) (scope_of scope.now.value) (node_of test.now) (stmt_node one.now) (option_map (λ s. stmt_node s.now) other.entry) (source_tasks tasks.old)) }
 {
-    tasks.push(Task::Branch(stmt))?;
-    push_value(tasks, program, scope, test)
+    let one = PlacedStmt::new(scope, Part::One(one))?;
+    let other = match other {
+        Some(other) => Some(PlacedStmt::new(scope, Part::One(other))?),
+        None => None,
+    };
+    tasks.push(Task::Branch { one, other })?;
+    push_value(tasks, source, scope, test)
 }
 
-/// A `do` is entered.
-fn push_do<'a>(
-    tasks: &mut Tasks<'a>,
-    scope: &Scope<'a>,
-    stmt: &'a TypedStmt,
+/// A loop from its test on.
+fn push_head<'a>(
+    tasks: &mut SourceTasks<'a>,
+    source: &Source<'a>,
+    scope: &Rc<Scope<'a>>,
+    test: Option<&'a TypedExpr>,
+    turning: SourceLoop<'a>,
 ) -> Result<(), AllocError>
-    ensures { OnOk result (Puts (scope_of scope.now) tasks.old tasks.new (do_tasks (scope_of scope.now) (stmt_node stmt.now))) }
+    ensures { OnOk result (source_tasks tasks.new ≡ head_tasks (map function_node source.now.program.now) (scope_of scope.now.value) (option_map (λ e. node_of e.now) test.entry) (source_loop turning.entry) (source_tasks tasks.old)) }
 {
-    tasks.push(Task::Begin(stmt))?;
-    tasks.push(Task::Enter)
+    match test {
+        Some(test) => {
+            tasks.push(Task::Decide(turning))?;
+            push_value(tasks, source, scope, test)
+        }
+        None => tasks.push(Task::Begin(turning)),
+    }
 }
 
 /// A loop that begins with its test is entered.
 fn push_entered<'a>(
-    tasks: &mut Tasks<'a>,
-    program: &'a [TypedFunction],
-    scope: &Scope<'a>,
-    stmt: &'a TypedStmt,
+    tasks: &mut SourceTasks<'a>,
+    source: &Source<'a>,
+    scope: &Rc<Scope<'a>>,
+    test: Option<&'a TypedExpr>,
+    step: &'a [TypedStmt],
+    body: &'a TypedStmt,
 ) -> Result<(), AllocError>
-    ensures { OnOk result (Puts (scope_of scope.now) tasks.old tasks.new (entered_tasks (map function_node program.now) (scope_of scope.now) (stmt_node stmt.now))) }
+    ensures { OnOk result (source_tasks tasks.new ≡ entered_tasks (map function_node source.now.program.now) (scope_of scope.now.value) (option_map (λ e. node_of e.now) test.entry) (typed_stmts step.now) (stmt_node body.now) (source_tasks tasks.old)) }
 {
-    push_head(tasks, program, scope, stmt)?;
+    let turning = place_loop(source.alloc, scope, test, step, body)?;
+    push_head(tasks, source, scope, test, turning)?;
     tasks.push(Task::Enter)
 }
 
-/// A loop from its test on.
-pub fn push_head<'a>(
-    tasks: &mut Tasks<'a>,
-    program: &'a [TypedFunction],
-    scope: &Scope<'a>,
-    stmt: &'a TypedStmt,
+/// A loop whose test stands behind its body is entered.
+fn push_do<'a>(
+    tasks: &mut SourceTasks<'a>,
+    source: &Source<'a>,
+    scope: &Rc<Scope<'a>>,
+    body: &'a TypedStmt,
+    test: &'a TypedExpr,
 ) -> Result<(), AllocError>
-    ensures { OnOk result (Puts (scope_of scope.now) tasks.old tasks.new (head_tasks (map function_node program.now) (scope_of scope.now) (test_of (stmt_node stmt.now)) (loop_of (scope_of scope.now) (stmt_node stmt.now)))) }
+    ensures { OnOk result (source_tasks tasks.new ≡ do_tasks (scope_of scope.now.value) (stmt_node body.now) (node_of test.now) (source_tasks tasks.old)) }
 {
-    match test_in(stmt) {
-        Some(test) => {
-            tasks.push(Task::Decide(stmt))?;
-            push_value(tasks, program, scope, test)
-        }
-        None => tasks.push(Task::Begin(stmt)),
-    }
-}
-
-/// The test of a loop, where one is written.
-fn test_in(stmt: &TypedStmt) -> Option<&TypedExpr>
-    ensures { option_map (λ test. node_of test.now) result ≡ test_of (stmt_node stmt.now) }
-{
-    match stmt {
-        TypedStmt::While { test, .. } | TypedStmt::Do { test, .. } => Some(test),
-        TypedStmt::For { test, .. } => test.as_ref(),
-        TypedStmt::Declare { .. }
-        | TypedStmt::LocalArray { .. }
-        | TypedStmt::SetVariable { .. }
-        | TypedStmt::SetElement { .. }
-        | TypedStmt::Call(_)
-        | TypedStmt::Barrier { .. }
-        | TypedStmt::If { .. }
-        | TypedStmt::Break
-        | TypedStmt::Continue
-        | TypedStmt::Return(_)
-        | TypedStmt::Block(_)
-        | TypedStmt::Empty => None,
-    }
+    let turning = place_loop(source.alloc, scope, Some(test), &[], body)?;
+    tasks.push(Task::Begin(turning))?;
+    tasks.push(Task::Enter)
 }
 
 /// `return`
 fn push_return<'a>(
-    tasks: &mut Tasks<'a>,
-    program: &'a [TypedFunction],
-    scope: &Scope<'a>,
+    tasks: &mut SourceTasks<'a>,
+    source: &Source<'a>,
+    scope: &Rc<Scope<'a>>,
     value: &'a Option<TypedExpr>,
 ) -> Result<(), AllocError>
-    ensures { OnOk result (Puts (scope_of scope.now) tasks.old tasks.new (return_tasks (map function_node program.now) (scope_of scope.now) (option_map node_of value.now))) }
+    ensures { OnOk result (source_tasks tasks.new ≡ return_tasks (map function_node source.now.program.now) (scope_of scope.now.value) (option_map node_of value.now) (source_tasks tasks.old)) }
 {
     tasks.push(Task::Return)?;
     match value {
         Some(expr) => {
             push_given(tasks, scope)?;
-            push_value(tasks, program, scope, expr)
+            push_value(tasks, source, scope, expr)
         }
         None => tasks.push(Task::Number(0)),
     }
 }
 
 /// The conversion of a value that a function gives back.
-fn push_given<'a>(tasks: &mut Tasks<'a>, scope: &Scope<'a>) -> Result<(), AllocError>
-    ensures { OnOk result (Puts (scope_of scope.now) tasks.old tasks.new (given_tasks scope.now.function.now.gives)) }
+fn push_given<'a>(tasks: &mut SourceTasks<'a>, scope: &Rc<Scope<'a>>) -> Result<(), AllocError>
+    ensures { OnOk result (source_tasks tasks.new ≡ given_tasks scope.now.value.function.now.gives (source_tasks tasks.old)) }
 {
     match scope.function.gives {
         Gives::Nothing => Ok(()),

@@ -1,2 +1,3 @@
 pub mod Costs
 pub mod Alike
+pub mod Sims

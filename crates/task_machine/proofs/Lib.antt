@@ -1,0 +1,3 @@
+pub mod JumpLaws
+pub mod Viewed
+pub mod RunLaws

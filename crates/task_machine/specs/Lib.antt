@@ -1,0 +1,4 @@
+pub mod Loops
+pub mod Operators
+pub mod Tasks
+pub mod Views
