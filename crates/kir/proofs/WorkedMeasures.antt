@@ -1,10 +1,10 @@
 -- Measures of small kernels.
-use Rattle.std.proofs.Common.{◌≡◌, refl, ℕ, true, false, List, [], ◌∷◌, inl}
+use Rattle.std.proofs.Common.{◌≡◌, refl, ℕ, true, false, List, [], ◌∷◌, inl, inr}
 use Rattle.vx_base.specs.declared.types.Alu.TheVariants.{Add}
 use Rattle.vx_base.specs.declared.types.Elem.TheVariants.{Int}
 use Rattle.vx_base.specs.declared.types.Pos.{Pos}
 use Rattle.ocl_program.specs.declared.exprs.ArrayRef.TheVariants.{Parameter}
-use Rattle.kir.specs.Measures.{IsChecked, branching, calls, jumps, nesting, runs, sites}
+use Rattle.kir.specs.Measures.{IsChecked, IsPoint, branching, calls, jumps, nesting, runs, sites}
 use Rattle.kir.specs.Trees.{Operand, VariableOf, NumberOf, Op, Set, Calculate, Load, Store, Check, Barrier, If, Loop, Break, Return, Call, Ops, NoOps, AndOp}
 use Rattle.kir.specs.Weights.{flagged_weight, weight}
 
@@ -26,6 +26,16 @@ looped = ops_of (
 
 sites_in_order : sites looped ≡ 0 ∷ 1 ∷ 2 ∷ []
 sites_in_order = refl
+
+-- the barrier in the body after three turns of the loop, the one in the step, and the one behind the loop
+point_in_body : IsPoint looped [] (record { site = 0; turns = 3 ∷ [] })
+point_in_body = inl (3, inr (inl (inl (inl (inl refl)))))
+
+point_in_step : IsPoint looped (5 ∷ []) (record { site = 1; turns = 5 ∷ 1 ∷ [] })
+point_in_step = inl (1, inr (inr (inl (inl refl))))
+
+point_behind : IsPoint looped (5 ∷ []) (record { site = 2; turns = 5 ∷ [] })
+point_behind = inr (inl refl)
 
 two_nested : nesting looped ≡ 2
 two_nested = refl

@@ -1,5 +1,6 @@
 -- What can be counted in a structured kernel, and when its loads and stores are checked.
 use Rattle.std.specs.Prelude.{◌≡◌, ℕ, suc, ◌+◌, max, nat_eq, Bool, true, false, not, ◌||◌, if◌then◌else◌, List, [], ◌∷◌, ◌++◌, ◌⊎◌, filter}
+use Rattle.item_acts.specs.declared.acts.Point.{Point}
 use Rattle.ocl_program.specs.declared.exprs.ArrayRef.{ArrayRef}
 use Rattle.kir.specs.Trees.{Operand, VariableOf, NumberOf, Op, Set, Calculate, Fit, Id, Load, Store, Check, Barrier, If, Loop, Break, Continue, Return, Call, Ops, NoOps, AndOp}
 
@@ -15,6 +16,21 @@ abbrev mutual
   sites_in (Loop head test body step) = sites head ++ (sites body ++ sites step)
   sites_in (Call body) = sites body
   sites_in other = []
+
+-- The points at which operations may wait, where the loops round them have made these numbers of turns: any number of turns of the loops
+-- within.
+abbrev mutual
+  pub IsPoint : Ops → List ℕ → Point → Type 0
+  IsPoint NoOps turns point = ⊥
+  IsPoint (AndOp op ops) turns point = IsPointIn op turns point ⊎ IsPoint ops turns point
+
+  pub IsPointIn : Op → List ℕ → Point → Type 0
+  IsPointIn (Barrier site) turns point = point ≡ record { site = site; turns = turns }
+  IsPointIn (If test one other) turns point = IsPoint one turns point ⊎ IsPoint other turns point
+  IsPointIn (Loop head test body step) turns point =
+      (n : ℕ) × (IsPoint head (turns ++ n ∷ []) point ⊎ (IsPoint body (turns ++ n ∷ []) point ⊎ IsPoint step (turns ++ n ∷ []) point))
+  IsPointIn (Call body) turns point = IsPoint body turns point
+  IsPointIn other turns point = ⊥
 
 -- how many branches and loops stand round one another at most
 abbrev mutual

@@ -6,11 +6,11 @@ use ocl_program::{ArrayRef, Builtin, LocalArray};
 use std::alloc::{AllocError, Global};
 use vx_base::{Alu, Elem, ListOf, ParamKind, Pos, Space};
 
-pub mod collatz;
-pub mod early_return;
-pub mod power;
-pub mod reduction;
-pub mod squares;
+pub(crate) mod collatz;
+pub(crate) mod early_return;
+pub(crate) mod power;
+pub(crate) mod reduction;
+pub(crate) mod squares;
 
 /// A place that does not matter.
 const SOMEWHERE: Pos = Pos { line: 1, col: 1 };

@@ -6,7 +6,7 @@ use std::alloc::{AllocError, Global};
 use vx_base::Alu;
 
 /// The kernel.
-pub const TEXT: &str =
+pub(crate) const TEXT: &str =
     "__kernel void k(__global int *a) { int i = get_global_id(0); int n = a[i]; int steps = 0;
      while (n != 1) { if (n % 2 == 0) n /= 2; else n = 3 * n + 1; steps++; } a[i] = steps; }";
 
@@ -31,7 +31,7 @@ fn turn(alloc: Global) -> Result<Vec<Op>, AllocError> {
 }
 
 /// Its structured code.
-pub fn code(alloc: Global) -> Result<Kir, AllocError> {
+pub(crate) fn code(alloc: Global) -> Result<Kir, AllocError> {
     let head = vec![in alloc; calculate(3, Alu::Xor, N, Operand::Number(1))]?;
     let body = turn(alloc)?;
     let ops = vec![in alloc;

@@ -6,14 +6,14 @@ use std::alloc::{AllocError, Global};
 use vx_base::Alu;
 
 /// The kernel.
-pub const TEXT: &str =
+pub(crate) const TEXT: &str =
     "__kernel void k(__global int *a) { int i = get_global_id(0); if (i > 4) return; a[i] *= 10; }";
 
 /// The element.
 const ELEMENT: Operand = Operand::Variable(1);
 
 /// Its structured code.
-pub fn code(alloc: Global) -> Result<Kir, AllocError> {
+pub(crate) fn code(alloc: Global) -> Result<Kir, AllocError> {
     let leave = vec![in alloc; Op::Return]?;
     let ops = vec![in alloc;
         id(0, Builtin::GlobalId),

@@ -6,7 +6,7 @@ use std::alloc::{AllocError, Global};
 use vx_base::Alu;
 
 /// The kernel.
-pub const TEXT: &str =
+pub(crate) const TEXT: &str =
     "int power(__global int *p, int n) { int v = 1; while (1) { if (n == 0) return v; v *= p[1]; n--; } }
      __kernel void k(__global int *a) { int i = get_global_id(0);
      if (i > 1) a[i] = power(a, i) + power(a, i - 2); }";
@@ -50,7 +50,7 @@ fn give(alloc: Global) -> Result<Vec<Op>, AllocError> {
 }
 
 /// Its structured code.
-pub fn code(alloc: Global) -> Result<Kir, AllocError> {
+pub(crate) fn code(alloc: Global) -> Result<Kir, AllocError> {
     let give = give(alloc)?;
     let ops = vec![in alloc;
         id(0, Builtin::GlobalId),

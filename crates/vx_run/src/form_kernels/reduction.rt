@@ -6,7 +6,7 @@ use std::alloc::{AllocError, Global};
 use vx_base::{Alu, Elem};
 
 /// The kernel.
-pub const TEXT: &str =
+pub(crate) const TEXT: &str =
     "__kernel void k(__global int *a) { __local int t[4]; int l = get_local_id(0);
      t[l] = a[get_global_id(0)]; barrier(CLK_LOCAL_MEM_FENCE);
      for (int s = 2; s > 0; s /= 2) { if (l < s) t[l] += t[l + s]; barrier(CLK_LOCAL_MEM_FENCE); }
@@ -61,7 +61,7 @@ fn give(alloc: Global) -> Result<Vec<Op>, AllocError> {
 }
 
 /// Its structured code.
-pub fn code(alloc: Global) -> Result<Kir, AllocError> {
+pub(crate) fn code(alloc: Global) -> Result<Kir, AllocError> {
     let head = vec![in alloc; calculate(6, Alu::Slt, Operand::Number(0), HALF)]?;
     let body = turn(alloc)?;
     let step = vec![in alloc; calculate(2, Alu::Div, HALF, Operand::Number(2))]?;

@@ -6,7 +6,7 @@ use std::alloc::{AllocError, Global};
 use vx_base::Alu;
 
 /// The kernel.
-pub const TEXT: &str = "int square(int x) { return x * x; }
+pub(crate) const TEXT: &str = "int square(int x) { return x * x; }
      __kernel void k(__global int *a) { int i = get_global_id(0); a[i] = square(a[i]) - square(i); }";
 
 /// What the two calls give.
@@ -22,7 +22,7 @@ fn call(alloc: Global, argument: u32, given: u32) -> Result<Op, AllocError> {
 }
 
 /// Its structured code.
-pub fn code(alloc: Global) -> Result<Kir, AllocError> {
+pub(crate) fn code(alloc: Global) -> Result<Kir, AllocError> {
     let ops = vec![in alloc;
         id(0, Builtin::GlobalId),
         check(BUFFER, OWN),
