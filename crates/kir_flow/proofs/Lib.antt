@@ -1,0 +1,21 @@
+pub mod WorkedFlags
+pub mod FlagStates
+pub mod Silence
+pub mod FollowStates
+pub mod FlagSteps
+pub mod StraightFollows
+pub mod LoopFollows
+pub mod FlaggedLoops
+pub mod Follows
+pub mod FlagsAlike
+pub mod NoJumps
+pub mod SitesKept
+pub mod NestingKept
+pub mod RoomKept
+pub mod ChecksKept
+pub mod WordsGiven
+pub mod WordsKept
+pub mod FlagsKeep
+mod WorkedKept
+pub mod Reading
+pub mod Emitting

@@ -1,0 +1,16 @@
+//! Jumps turned into flags: a structured kernel without `break`, `continue`, `return` and calls, which asks for the same.
+//!
+//! `specs/Flagging.antt` says what the flags are and which operations set and test them, and `specs/WithoutJumps.antt` what the kernel
+//! made so keeps of the one that it is made from. [`flags`] makes it.
+#![tactic(auto)]
+
+pub mod flagging;
+pub mod kernels;
+pub mod laws;
+pub mod leaving;
+pub mod scopes;
+pub mod singles;
+#[cfg(test)]
+mod tests;
+
+pub use kernels::flags;
