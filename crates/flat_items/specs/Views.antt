@@ -4,7 +4,7 @@ use Rattle.std.specs.Prelude.{List, ◌∷◌, Option}
 use Rattle.ocl_inline.specs.declared.trees.FlatArgument.{FlatArgument, Array}
 use Rattle.ocl_inline.specs.declared.trees.FlatArgument as argument
 use Rattle.ocl_inline.specs.declared.trees.FlatExpr.{FlatExpr as HeldExpr}
-use Rattle.ocl_inline.specs.FlatTasks.{FlatTask, bound_to, head_tasks, loop_of, value_tasks}
+use Rattle.ocl_inline.specs.FlatTasks.{FlatTask, bound_to, loop_of, value_tasks}
 use Rattle.ocl_inline.specs.Shapes.{expr_of, flat_trees, stmt_of}
 use Rattle.ocl_inline.specs.Trees.{BlockFlat, FlatExpr, FlatStmt, FlatStmts, FlatValue}
 use Rattle.task_machine.specs.declared.states.State.{State as HeldState}
@@ -44,4 +44,4 @@ abbrev pub branch_tasks : FlatExpr → FlatStmt → Option FlatStmt → List Fla
 branch_tasks test one other ts = value_tasks test (task.Branch one other ∷ ts)
 
 abbrev pub entered_tasks : FlatValue → FlatStmts → FlatStmt → List FlatTask → List FlatTask
-entered_tasks test step body ts = task.Enter ∷ head_tasks test (loop_of test (BlockFlat step) body) ts
+entered_tasks test step body ts = task.Enter (loop_of test (BlockFlat step) body) ∷ ts

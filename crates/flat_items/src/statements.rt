@@ -192,9 +192,7 @@ fn push_while<'a>(
     ensures { OnOk result (flat_tasks tasks.new ≡ stmt_tasks (WhileFlat (expr_of test.now) (stmt_of body.now)) (flat_tasks tasks.old)) }
 {
     let turning = Loop::new(alloc, Some(test), Part::Block(&[]), Part::One(body))?;
-    tasks.push(Task::Decide(turning))?;
-    push_value(tasks, test)?;
-    tasks.push(Task::Enter)
+    tasks.push(Task::Enter(turning))
 }
 
 /// A loop whose test stands behind its body is entered.
@@ -207,8 +205,7 @@ fn push_do<'a>(
     ensures { OnOk result (flat_tasks tasks.new ≡ stmt_tasks (DoFlat (stmt_of body.now) (expr_of test.now)) (flat_tasks tasks.old)) }
 {
     let turning = Loop::new(alloc, Some(test), Part::Block(&[]), Part::One(body))?;
-    tasks.push(Task::Begin(turning))?;
-    tasks.push(Task::Enter)
+    tasks.push(Task::EnterTurn(turning))
 }
 
 /// A `for` is entered, behind what runs first.
@@ -221,19 +218,12 @@ fn push_entered<'a>(
 ) -> Result<(), AllocError>
     ensures { OnOk result (flat_tasks tasks.new ≡ entered_tasks (written (option_map (λ b. expr_of b.value) test.now)) (flat_trees step.now) (stmt_of body.now) (flat_tasks tasks.old)) }
 {
-    match test {
-        Some(test) => {
-            let turning = Loop::new(alloc, Some(&**test), Part::Block(step), Part::One(body))?;
-            tasks.push(Task::Decide(turning))?;
-            push_value(tasks, test)?;
-            tasks.push(Task::Enter)
-        }
-        None => {
-            let turning = Loop::new(alloc, None, Part::Block(step), Part::One(body))?;
-            tasks.push(Task::Begin(turning))?;
-            tasks.push(Task::Enter)
-        }
-    }
+    let test = match test {
+        Some(test) => Some(&**test),
+        None => None,
+    };
+    let turning = Loop::new(alloc, test, Part::Block(step), Part::One(body))?;
+    tasks.push(Task::Enter(turning))
 }
 
 /// `return`

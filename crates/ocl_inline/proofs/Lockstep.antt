@@ -42,7 +42,8 @@ left_mapped bodies program (task.Assign k elem ∷ ts) s = left_mapped bodies pr
 left_mapped bodies program (task.Discard ∷ ts) s = left_mapped bodies program ts s
 left_mapped bodies program (task.Wait site ∷ ts) s = left_mapped bodies program ts s
 left_mapped bodies program (task.Branch one other ∷ ts) s = left_mapped bodies program ts s
-left_mapped bodies program (task.Enter ∷ ts) s = left_mapped bodies program ts s
+left_mapped bodies program (task.Enter loop ∷ ts) s = left_mapped bodies program ts s
+left_mapped bodies program (task.EnterTurn loop ∷ ts) s = left_mapped bodies program ts s
 left_mapped bodies program (task.Decide loop ∷ ts) s = refl
 left_mapped bodies program (task.Begin loop ∷ ts) s = refl
 left_mapped bodies program (task.Again loop ∷ ts) s = refl
@@ -72,7 +73,8 @@ continued_mapped bodies program (task.Assign k elem ∷ ts) s = continued_mapped
 continued_mapped bodies program (task.Discard ∷ ts) s = continued_mapped bodies program ts s
 continued_mapped bodies program (task.Wait site ∷ ts) s = continued_mapped bodies program ts s
 continued_mapped bodies program (task.Branch one other ∷ ts) s = continued_mapped bodies program ts s
-continued_mapped bodies program (task.Enter ∷ ts) s = continued_mapped bodies program ts s
+continued_mapped bodies program (task.Enter loop ∷ ts) s = continued_mapped bodies program ts s
+continued_mapped bodies program (task.EnterTurn loop ∷ ts) s = continued_mapped bodies program ts s
 continued_mapped bodies program (task.Decide loop ∷ ts) s = refl
 continued_mapped bodies program (task.Begin loop ∷ ts) s = refl
 continued_mapped bodies program (task.Again loop ∷ ts) s = refl
@@ -102,7 +104,8 @@ returned_mapped bodies program (task.Assign k elem ∷ ts) s = returned_mapped b
 returned_mapped bodies program (task.Discard ∷ ts) s = returned_mapped bodies program ts s
 returned_mapped bodies program (task.Wait site ∷ ts) s = returned_mapped bodies program ts s
 returned_mapped bodies program (task.Branch one other ∷ ts) s = returned_mapped bodies program ts s
-returned_mapped bodies program (task.Enter ∷ ts) s = returned_mapped bodies program ts s
+returned_mapped bodies program (task.Enter loop ∷ ts) s = returned_mapped bodies program ts s
+returned_mapped bodies program (task.EnterTurn loop ∷ ts) s = returned_mapped bodies program ts s
 returned_mapped bodies program (task.Decide loop ∷ ts) s = returned_mapped bodies program ts (turning (under s.turns) s)
 returned_mapped bodies program (task.Begin loop ∷ ts) s = returned_mapped bodies program ts (turning (under s.turns) s)
 returned_mapped bodies program (task.Again loop ∷ ts) s = returned_mapped bodies program ts (turning (under s.turns) s)
@@ -175,7 +178,9 @@ task_mapped bodies program are at (task.Wait site) s = refl
 task_mapped bodies program are at (task.Branch one other) s =
     ap (λ ts. Go (onward ts (holding (under s.values) (state_at bodies program s))))
     (cond_mapped (tasks_at bodies program) (top s.values == 0) _ _ _ _ (optional_mapped bodies program are other s.tasks) (stmt_mapped bodies program are one.scope one.stmt s.tasks))
-task_mapped bodies program are at task.Enter s = refl
+task_mapped bodies program are at (task.Enter loop) s =
+    ap (λ ts. Go (turning (0 ∷ s.turns) (onward ts (state_at bodies program s)))) (headed_mapped bodies program are loop loop.test s.tasks)
+task_mapped bodies program are at (task.EnterTurn loop) s = refl
 task_mapped bodies program are at (task.Decide loop) s =
     go bodies program (top s.values == 0) _ _ _ _ refl
     (onto bodies program _ _ (holding (under s.values) s) (turned_mapped bodies program are loop s.tasks))

@@ -15,7 +15,7 @@ use Rattle.task_machine.specs.declared.tasks.Task.TheVariants as task
 use Rattle.ocl_sem.specs.Source as source
 use Rattle.ocl_sem.specs.Source.{Scope, SourceTask, variable_in, array_in, scope_at, site_of, callee_of, is_scalar}
 use Rattle.ocl_inline.specs.Trees.{BlockFlat, FlatArgs}
-use Rattle.ocl_inline.specs.FlatTasks.{bound_to, value_tasks, values_tasks, args_tasks, operand_tasks, assigned_tasks, given_tasks, return_tasks, declared_tasks, loop_of, head_tasks, stmt_tasks, stmts_tasks}
+use Rattle.ocl_inline.specs.FlatTasks.{bound_to, value_tasks, values_tasks, args_tasks, operand_tasks, assigned_tasks, given_tasks, return_tasks, declared_tasks, loop_of, stmt_tasks, stmts_tasks}
 use Rattle.ocl_inline.specs.Expansion.{Bodies, binding_as, binding_by, binding_at, call_flat, flat_expr, flat_args, flat_value, flat_stmt, flat_stmts}
 use Rattle.ocl_inline.specs.Mapping.{task_at, tasks_at}
 use Rattle.ocl_inline.specs.Laws.{AreBodies}
@@ -123,11 +123,12 @@ pub declared_mapped : (bodies : Bodies) (program : List FunctionNode) → AreBod
 declared_mapped bodies program are scope variable elem None ts = refl
 declared_mapped bodies program are scope variable elem (Some e) ts = ap (λ us. task.Clear variable ∷ us) (value_mapped bodies program are scope e (task.Assign variable elem ∷ ts))
 
-pub head_mapped : (bodies : Bodies) (program : List FunctionNode) → AreBodies bodies program → (scope : Scope) (test : Option ExprNode) (step body : StmtNode) (ts : List SourceTask)
-    → head_tasks (flat_value bodies program scope test) (loop_of (flat_value bodies program scope test) (flat_stmt bodies program scope step) (flat_stmt bodies program scope body)) (tasks_at bodies program ts)
-    ≡ tasks_at bodies program (source.head_tasks program scope test (source.loop_in scope test step body) ts)
-head_mapped bodies program are scope None step body ts = refl
-head_mapped bodies program are scope (Some e) step body ts = value_mapped bodies program are scope e (task.Decide (source.loop_in scope (Some e) step body) ∷ ts)
+-- where a loop is entered
+pub entered_mapped : (bodies : Bodies) (program : List FunctionNode) (scope : Scope) (test : Option ExprNode) (step body : StmtNode) (ts : List SourceTask)
+    → task.Enter (loop_of (flat_value bodies program scope test) (flat_stmt bodies program scope step) (flat_stmt bodies program scope body)) ∷ tasks_at bodies program ts
+    ≡ tasks_at bodies program (task.Enter (source.loop_in scope test step body) ∷ ts)
+entered_mapped bodies program scope None step body ts = refl
+entered_mapped bodies program scope (Some e) step body ts = refl
 
 abbrev mutual
   pub stmt_mapped : (bodies : Bodies) (program : List FunctionNode) → AreBodies bodies program → (scope : Scope) (s : StmtNode) (ts : List SourceTask)
@@ -144,11 +145,10 @@ abbrev mutual
   stmt_mapped bodies program are scope (IfNode test one) ts = value_mapped bodies program are scope test (task.Branch (record { scope = scope; stmt = one }) None ∷ ts)
   stmt_mapped bodies program are scope (IfElseNode test one other) ts =
       value_mapped bodies program are scope test (task.Branch (record { scope = scope; stmt = one }) (Some (record { scope = scope; stmt = other })) ∷ ts)
-  stmt_mapped bodies program are scope (WhileNode test body) ts =
-      ap (λ us. task.Enter ∷ us) (value_mapped bodies program are scope test (task.Decide (source.loop_in scope (Some test) (BlockNode NoStmts) body) ∷ ts))
+  stmt_mapped bodies program are scope (WhileNode test body) ts = refl
   stmt_mapped bodies program are scope (DoNode body test) ts = refl
   stmt_mapped bodies program are scope (ForNode first test step body) ts =
-      ap (λ us. stmts_tasks (flat_stmts bodies program scope first) (task.Enter ∷ us)) (head_mapped bodies program are scope test (BlockNode step) body ts)
+      ap (stmts_tasks (flat_stmts bodies program scope first)) (entered_mapped bodies program scope test (BlockNode step) body ts)
       ∙ stmts_mapped bodies program are scope first _
   stmt_mapped bodies program are scope BreakNode ts = refl
   stmt_mapped bodies program are scope ContinueNode ts = refl

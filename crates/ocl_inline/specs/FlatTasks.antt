@@ -89,11 +89,6 @@ declared_tasks variable elem (SomeFlat e) ts = task.Clear variable ∷ value_tas
 abbrev pub loop_of : FlatValue → FlatStmt → FlatStmt → FlatLoop
 loop_of test step body = record { test = value_of test; step = step; body = body }
 
--- a loop from its test on
-abbrev pub head_tasks : FlatValue → FlatLoop → List FlatTask → List FlatTask
-head_tasks NoFlat loop ts = task.Begin loop ∷ ts
-head_tasks (SomeFlat test) loop ts = value_tasks test (task.Decide loop ∷ ts)
-
 abbrev mutual
   -- The tasks of a statement, and then the rest.
   pub stmt_tasks : FlatStmt → List FlatTask → List FlatTask
@@ -107,10 +102,9 @@ abbrev mutual
   stmt_tasks (BarrierFlat site) ts = task.Wait site ∷ ts
   stmt_tasks (IfFlat test one) ts = value_tasks test (task.Branch one None ∷ ts)
   stmt_tasks (IfElseFlat test one other) ts = value_tasks test (task.Branch one (Some other) ∷ ts)
-  stmt_tasks (WhileFlat test body) ts = task.Enter ∷ value_tasks test (task.Decide (loop_of (SomeFlat test) (BlockFlat NoFlats) body) ∷ ts)
-  stmt_tasks (DoFlat body test) ts = task.Enter ∷ task.Begin (loop_of (SomeFlat test) (BlockFlat NoFlats) body) ∷ ts
-  stmt_tasks (ForFlat first test step body) ts =
-      stmts_tasks first (task.Enter ∷ head_tasks test (loop_of test (BlockFlat step) body) ts)
+  stmt_tasks (WhileFlat test body) ts = task.Enter (loop_of (SomeFlat test) (BlockFlat NoFlats) body) ∷ ts
+  stmt_tasks (DoFlat body test) ts = task.EnterTurn (loop_of (SomeFlat test) (BlockFlat NoFlats) body) ∷ ts
+  stmt_tasks (ForFlat first test step body) ts = stmts_tasks first (task.Enter (loop_of test (BlockFlat step) body) ∷ ts)
   stmt_tasks BreakFlat ts = task.Break ∷ ts
   stmt_tasks ContinueFlat ts = task.Continue ∷ ts
   stmt_tasks (ReturnFlat gives value) ts = return_tasks gives value ts

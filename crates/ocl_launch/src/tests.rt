@@ -164,6 +164,13 @@ fn loops_and_returns(rt: HostRuntime) -> Result<(), Fail> {
              do { s += i; if (s > 9) break; } while (s < 6 && i != 0); a[i] = s; }",
             [0, 6, 6, 6, 8, 10, 6, 7],
         ),
+        (
+            "int down(int n) { if (n < 2) return 7; while (n > 2) n--; return n; }
+             __kernel void k(__global int *a) { int i = get_global_id(0); int s = 0;
+             while (1) { s++; if (s == 2) continue; if (s > i) break; for (int j = 0; j < 10; j++) s++; }
+             a[i] = s + down(i); }",
+            [8, 19, 14, 14, 14, 14, 14, 14],
+        ),
     ] {
         assert_eq!(rt; words_after(rt.alloc(), text, COUNTED)?, after, "{text}");
     }
@@ -321,6 +328,12 @@ fn points_of_barriers(rt: HostRuntime) -> Result<(), Fail> {
             "void wait(int n) { do { barrier(1); n--; } while (n > 0); }
              __kernel void k(__global int *a) { wait(2); for (int i = 0; ; i++) { if (i == 1) continue; wait(1); if (i == 2) break; } }",
             "0:0 0:1 1:0 0 1:2 0 ",
+        ),
+        (
+            "__kernel void k(__global int *a) { int n = 0;
+             while (1) { n++; if (n == 2) continue; if (n > 3) break; do barrier(1); while (0); }
+             for (;;) { barrier(1); break; for (;;) ; } }",
+            "0:0 0 0:2 0 1:0 ",
         ),
     ] {
         assert_eq!(rt;

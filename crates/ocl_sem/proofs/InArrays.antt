@@ -13,7 +13,7 @@ use Rattle.item_settings.specs.Settings.{Setting, elem_size, element_in}
 use Rattle.ocl_sem.specs.Settings.{setting_of}
 use Rattle.ocl_sem.specs.Source.{source_parts}
 use Rattle.task_machine.specs.declared.tasks.Task.{Task}
-use Rattle.task_machine.specs.declared.tasks.Task.TheVariants.{Number, Variable, Unary, Binary, Fit, Call, Truth, AndThen, OrElse, Choose, Load, Reread, Store, Clear, Assign, Discard, Wait, Branch, Enter, Decide, Begin, Again, Invoke, CallEnd, Break, Continue, Return}
+use Rattle.task_machine.specs.declared.tasks.Task.TheVariants.{Number, Variable, Unary, Binary, Fit, Call, Truth, AndThen, OrElse, Choose, Load, Reread, Store, Clear, Assign, Discard, Wait, Branch, Enter, EnterTurn, Decide, Begin, Again, Invoke, CallEnd, Break, Continue, Return}
 use Rattle.task_machine.specs.Tasks.{Parts, State, load_step, store_step, step, step_from, task_step, onward}
 
 -- what a step asks for is within the arrays
@@ -58,7 +58,8 @@ task_acts parts at (Assign k elem) s = tt
 task_acts parts at Discard s = tt
 task_acts parts at (Wait site) s = tt
 task_acts parts at (Branch one other) s = tt
-task_acts parts at Enter s = tt
+task_acts parts at (Enter loop) s = tt
+task_acts parts at (EnterTurn loop) s = tt
 task_acts parts at (Decide loop) s = tt
 task_acts parts at (Begin loop) s = tt
 task_acts parts at (Again loop) s = tt

@@ -30,11 +30,11 @@ test_seen see (Some r) = refl
 -- what a `for` is
 pub for_tasks : (program : List FunctionNode) (scope : Scope) (stmt : TypedStmt) (first : Vec TypedStmt Global) (test : Option TypedExpr) (step : Vec TypedStmt Global) (body : Box TypedStmt Global) (seen seen' : List TypedStmt)
     → stmt ≡ For first test step body → seen ≡ first.items → seen' ≡ step.items → (ts : List SourceTask)
-    → stmts_tasks program scope (typed_stmts seen) (entered_tasks program scope (option_map node_of test) (typed_stmts seen') (stmt_node body.value) ts) ≡ stmt_tasks program scope (stmt_node stmt) ts
+    → stmts_tasks program scope (typed_stmts seen) (entered_tasks scope (option_map node_of test) (typed_stmts seen') (stmt_node body.value) ts) ≡ stmt_tasks program scope (stmt_node stmt) ts
 for_tasks program scope stmt first test step body seen seen' is one two ts =
     let node : stmt_node stmt ≡ ForNode (typed_stmts first.items) (option_map node_of test) (typed_stmts step.items) (stmt_node body.value) = ap stmt_node is ∙ for_node first test step body in
-    ap (λ xs. stmts_tasks program scope (typed_stmts xs) (entered_tasks program scope (option_map node_of test) (typed_stmts seen') (stmt_node body.value) ts)) one
-    ∙ ap (λ xs. stmts_tasks program scope (typed_stmts first.items) (entered_tasks program scope (option_map node_of test) (typed_stmts xs) (stmt_node body.value) ts)) two
+    ap (λ xs. stmts_tasks program scope (typed_stmts xs) (entered_tasks scope (option_map node_of test) (typed_stmts seen') (stmt_node body.value) ts)) one
+    ∙ ap (λ xs. stmts_tasks program scope (typed_stmts first.items) (entered_tasks scope (option_map node_of test) (typed_stmts xs) (stmt_node body.value) ts)) two
     ∙ sym (ap (λ n. stmt_tasks program scope n ts) node)
 
 -- a run from the start of an item, whose setting has the lists as slices

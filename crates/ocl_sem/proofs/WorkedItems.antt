@@ -23,7 +23,7 @@ use Rattle.ocl_ast.specs.declared.units.Param.{Param}
 use Rattle.ocl_program.specs.declared.exprs.ArrayRef.TheVariants.{Parameter, Declared}
 use Rattle.ocl_program.specs.declared.exprs.Builtin.TheVariants.{GlobalId, LocalId, MulHi, Abs}
 use Rattle.ocl_program.specs.declared.functions.CallSite.{CallSite}
-use Rattle.ocl_program.specs.Nodes.{ExprNode, NumberNode, VariableNode, UnaryNode, BinaryNode, BothNode, EitherNode, ChooseNode, CastNode, LoadNode, CallNode, BuiltinNode, NoArgs, ValueArg, ArrayArg, StmtNode, DeclareNode, SetVariableNode, SetElementNode, CallStmtNode, BarrierNode, IfNode, IfElseNode, WhileNode, DoNode, ForNode, BreakNode, ContinueNode, ReturnNode, BlockNode, NoStmts, stmt_nodes, FunctionNode}
+use Rattle.ocl_program.specs.Nodes.{ExprNode, NumberNode, VariableNode, UnaryNode, BinaryNode, BothNode, EitherNode, ChooseNode, CastNode, LoadNode, CallNode, BuiltinNode, NoArgs, ValueArg, ArrayArg, StmtNode, DeclareNode, SetVariableNode, SetElementNode, CallStmtNode, BarrierNode, IfNode, IfElseNode, WhileNode, DoNode, ForNode, BreakNode, ContinueNode, ReturnNode, BlockNode, EmptyNode, NoStmts, stmt_nodes, FunctionNode}
 use Rattle.ocl_sem.specs.Items.{kernel_asks}
 
 abbrev at : ℕ → Pos
@@ -288,6 +288,18 @@ continued_loop : asks [] []
     (BlockNode (stmt_nodes (IfNode (BinaryNode Eq false (x_at 1) (number 1)) ContinueNode ∷ SetVariableNode 0 Int (With Add) false (Some (x_at 1)) ∷ []))) ∷
     first_is (x_at 0) ∷ []) 0 [] 200 ≡ stores 0 9
 continued_loop = refl
+
+-- `while (1) { break; while (0) ; } a[0] = 1;` leaves the outer loop: the other one is not entered yet
+left_before_loop : asks [] []
+    (WhileNode (number 1) (BlockNode (stmt_nodes (BreakNode ∷ WhileNode (number 0) EmptyNode ∷ []))) ∷ first_is (number 1) ∷ []) 0 [] 40 ≡ stores 0 1
+left_before_loop = refl
+
+-- `for (int i = 0; i < 2; i++) { if (i == 0) continue; do barrier(1); while (0); }`: a loop behind the end of a turn has no part in it
+continued_before_loop : asks [] []
+    (ForNode (stmt_nodes (DeclareNode 0 Int (Some (number 0)) ∷ [])) (Some (BinaryNode Lt false (x_at 0) (number 2))) (stmt_nodes (SetVariableNode 0 Int Up false None ∷ []))
+    (BlockNode (stmt_nodes (IfNode (BinaryNode Eq false (x_at 0) (number 0)) ContinueNode ∷ DoNode (BarrierNode 0) (number 0) ∷ []))) ∷ []) 0 [] 60
+    ≡ Act (Barrier (record { site = 0; turns = 1 ∷ 0 ∷ [] }))
+continued_before_loop = refl
 
 -- `do i++; while (i < 1); a[0] = i;` has one turn at least
 do_once : asks [] [] (DeclareNode 0 Int (Some (number 7)) ∷ DoNode (SetVariableNode 0 Int Up false None) (BinaryNode Lt false (x_at 0) (number 1)) ∷ first_is (x_at 0) ∷ []) 0 [] 40 ≡ stores 0 8

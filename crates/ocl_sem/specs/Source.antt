@@ -188,11 +188,6 @@ loop_in scope test step body = record {
   body = record { scope = scope; stmt = body };
 }
 
--- a loop from its test on
-abbrev pub head_tasks : List FunctionNode → Scope → Option ExprNode → SourceLoop → List SourceTask → List SourceTask
-head_tasks program scope None loop ts = task.Begin loop ∷ ts
-head_tasks program scope (Some test) loop ts = value_tasks program scope test (task.Decide loop ∷ ts)
-
 abbrev mutual
   -- The tasks of a statement, and then the rest.
   pub stmt_tasks : List FunctionNode → Scope → StmtNode → List SourceTask → List SourceTask
@@ -208,10 +203,9 @@ abbrev mutual
   stmt_tasks program scope (IfNode test one) ts = value_tasks program scope test (task.Branch (record { scope = scope; stmt = one }) None ∷ ts)
   stmt_tasks program scope (IfElseNode test one other) ts =
       value_tasks program scope test (task.Branch (record { scope = scope; stmt = one }) (Some (record { scope = scope; stmt = other })) ∷ ts)
-  stmt_tasks program scope (WhileNode test body) ts = task.Enter ∷ value_tasks program scope test (task.Decide (loop_in scope (Some test) (BlockNode NoStmts) body) ∷ ts)
-  stmt_tasks program scope (DoNode body test) ts = task.Enter ∷ task.Begin (loop_in scope (Some test) (BlockNode NoStmts) body) ∷ ts
-  stmt_tasks program scope (ForNode first test step body) ts =
-      stmts_tasks program scope first (task.Enter ∷ head_tasks program scope test (loop_in scope test (BlockNode step) body) ts)
+  stmt_tasks program scope (WhileNode test body) ts = task.Enter (loop_in scope (Some test) (BlockNode NoStmts) body) ∷ ts
+  stmt_tasks program scope (DoNode body test) ts = task.EnterTurn (loop_in scope (Some test) (BlockNode NoStmts) body) ∷ ts
+  stmt_tasks program scope (ForNode first test step body) ts = stmts_tasks program scope first (task.Enter (loop_in scope test (BlockNode step) body) ∷ ts)
   stmt_tasks program scope BreakNode ts = task.Break ∷ ts
   stmt_tasks program scope ContinueNode ts = task.Continue ∷ ts
   stmt_tasks program scope (ReturnNode value) ts = return_tasks program scope value ts

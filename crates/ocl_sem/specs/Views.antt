@@ -13,7 +13,7 @@ use Rattle.ocl_sem.specs.declared.placed.Part.TheVariants.{One, Block}
 use Rattle.ocl_sem.specs.declared.placed.PlacedExpr.{PlacedExpr as HeldExpr}
 use Rattle.ocl_sem.specs.declared.placed.PlacedStmt.{PlacedStmt as HeldStmt}
 use Rattle.ocl_sem.specs.declared.scopes.Scope.{Scope as HeldScope}
-use Rattle.ocl_sem.specs.Source.{Scope, PlacedExpr, PlacedStmt, SourceLoop, SourceTask, array_in, head_tasks, loop_in, value_tasks}
+use Rattle.ocl_sem.specs.Source.{Scope, PlacedExpr, PlacedStmt, SourceLoop, SourceTask, array_in, loop_in, value_tasks}
 
 abbrev pub placed_expr : Scope → ExprNode → PlacedExpr
 placed_expr scope expr = record { scope = scope; expr = expr }
@@ -72,7 +72,7 @@ branch_tasks program scope test one other ts =
     value_tasks program scope test (task.Branch (placed_stmt scope one) (option_map (placed_stmt scope) other) ∷ ts)
 
 abbrev pub do_tasks : Scope → StmtNode → ExprNode → List SourceTask → List SourceTask
-do_tasks scope body test ts = task.Enter ∷ task.Begin (loop_in scope (Some test) (BlockNode NoStmts) body) ∷ ts
+do_tasks scope body test ts = task.EnterTurn (loop_in scope (Some test) (BlockNode NoStmts) body) ∷ ts
 
-abbrev pub entered_tasks : List FunctionNode → Scope → Option ExprNode → StmtNodes → StmtNode → List SourceTask → List SourceTask
-entered_tasks program scope test step body ts = task.Enter ∷ head_tasks program scope test (loop_in scope test (BlockNode step) body) ts
+abbrev pub entered_tasks : Scope → Option ExprNode → StmtNodes → StmtNode → List SourceTask → List SourceTask
+entered_tasks scope test step body ts = task.Enter (loop_in scope test (BlockNode step) body) ∷ ts

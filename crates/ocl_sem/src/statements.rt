@@ -1,7 +1,7 @@
 //! Statements as tasks. A stack takes what is done last first.
 ghost use Rattle.std.specs.Prelude.{◌≡◌, OnOk, map, option_map};
 ghost use Rattle.ocl_program.specs.Shapes.{function_node, node_of, stmt_node, typed_stmts};
-ghost use Rattle.ocl_sem.specs.Source.{assigned_tasks, combined_tasks, declared_tasks, given_tasks, head_tasks, operand_tasks, return_tasks, stmt_tasks, stmts_tasks};
+ghost use Rattle.ocl_sem.specs.Source.{assigned_tasks, combined_tasks, declared_tasks, given_tasks, operand_tasks, return_tasks, stmt_tasks, stmts_tasks};
 ghost use Rattle.ocl_sem.specs.Views.{branch_tasks, do_tasks, entered_tasks, scope_of, source_loop, source_task, source_tasks};
 
 use crate::placed::{Part, PlacedStmt, SourceLoop, SourceTask, SourceTasks, place_loop};
@@ -224,25 +224,6 @@ fn push_branch<'a>(
     push_value(tasks, source, scope, test)
 }
 
-/// A loop from its test on.
-fn push_head<'a>(
-    tasks: &mut SourceTasks<'a>,
-    source: &Source<'a>,
-    scope: &Rc<Scope<'a>>,
-    test: Option<&'a TypedExpr>,
-    turning: SourceLoop<'a>,
-) -> Result<(), AllocError>
-    ensures { OnOk result (source_tasks tasks.new ≡ head_tasks (map function_node source.now.program.now) (scope_of scope.now.value) (option_map (λ e. node_of e.now) test.entry) (source_loop turning.entry) (source_tasks tasks.old)) }
-{
-    match test {
-        Some(test) => {
-            tasks.push(Task::Decide(turning))?;
-            push_value(tasks, source, scope, test)
-        }
-        None => tasks.push(Task::Begin(turning)),
-    }
-}
-
 /// A loop that begins with its test is entered.
 fn push_entered<'a>(
     tasks: &mut SourceTasks<'a>,
@@ -252,11 +233,10 @@ fn push_entered<'a>(
     step: &'a [TypedStmt],
     body: &'a TypedStmt,
 ) -> Result<(), AllocError>
-    ensures { OnOk result (source_tasks tasks.new ≡ entered_tasks (map function_node source.now.program.now) (scope_of scope.now.value) (option_map (λ e. node_of e.now) test.entry) (typed_stmts step.now) (stmt_node body.now) (source_tasks tasks.old)) }
+    ensures { OnOk result (source_tasks tasks.new ≡ entered_tasks (scope_of scope.now.value) (option_map (λ e. node_of e.now) test.entry) (typed_stmts step.now) (stmt_node body.now) (source_tasks tasks.old)) }
 {
     let turning = place_loop(source.alloc, scope, test, step, body)?;
-    push_head(tasks, source, scope, test, turning)?;
-    tasks.push(Task::Enter)
+    tasks.push(Task::Enter(turning))
 }
 
 /// A loop whose test stands behind its body is entered.
@@ -270,8 +250,7 @@ fn push_do<'a>(
     ensures { OnOk result (source_tasks tasks.new ≡ do_tasks (scope_of scope.now.value) (stmt_node body.now) (node_of test.now) (source_tasks tasks.old)) }
 {
     let turning = place_loop(source.alloc, scope, Some(test), &[], body)?;
-    tasks.push(Task::Begin(turning))?;
-    tasks.push(Task::Enter)
+    tasks.push(Task::EnterTurn(turning))
 }
 
 /// `return`

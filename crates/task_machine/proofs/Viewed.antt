@@ -5,7 +5,7 @@ use Rattle.item_settings.specs.Settings.{Setting}
 use Rattle.task_machine.specs.declared.tasks.Marker.{Marker}
 use Rattle.task_machine.specs.declared.tasks.Marker.TheVariants.{Plain, TurnEnd, TurnStart, BodyEnd}
 use Rattle.task_machine.specs.declared.tasks.Task.{Task}
-use Rattle.task_machine.specs.declared.tasks.Task.TheVariants.{Number, Variable, Unary, Binary, Fit, Call, Truth, AndThen, OrElse, Choose, Load, Reread, Store, Clear, Assign, Discard, Wait, Branch, Enter, Decide, Begin, Again, Invoke, CallEnd, Break, Continue, Return}
+use Rattle.task_machine.specs.declared.tasks.Task.TheVariants.{Number, Variable, Unary, Binary, Fit, Call, Truth, AndThen, OrElse, Choose, Load, Reread, Store, Clear, Assign, Discard, Wait, Branch, Enter, EnterTurn, Decide, Begin, Again, Invoke, CallEnd, Break, Continue, Return}
 use Rattle.task_machine.specs.Tasks.{State, marker_of, left, continued, returned, turning, under}
 use Rattle.task_machine.specs.Views.{assigned, computed, state_by, task_by, tasks_by, told_value}
 use Rattle.task_machine.proofs.JumpLaws.{left_by, continued_by, returned_by}
@@ -35,7 +35,8 @@ module _ {V T V' T' : Type 0} where
   computed_viewed f g at Discard s = refl
   computed_viewed f g at (Wait site) s = refl
   computed_viewed f g at (Branch one other) s = refl
-  computed_viewed f g at Enter s = refl
+  computed_viewed f g at (Enter loop) s = refl
+  computed_viewed f g at (EnterTurn loop) s = refl
   computed_viewed f g at (Decide loop) s = refl
   computed_viewed f g at (Begin loop) s = refl
   computed_viewed f g at (Again loop) s = refl
@@ -64,7 +65,8 @@ module _ {V T V' T' : Type 0} where
   assigned_viewed f g Discard s = refl
   assigned_viewed f g (Wait site) s = refl
   assigned_viewed f g (Branch one other) s = refl
-  assigned_viewed f g Enter s = refl
+  assigned_viewed f g (Enter loop) s = refl
+  assigned_viewed f g (EnterTurn loop) s = refl
   assigned_viewed f g (Decide loop) s = refl
   assigned_viewed f g (Begin loop) s = refl
   assigned_viewed f g (Again loop) s = refl
@@ -97,7 +99,8 @@ module _ {V T V' T' : Type 0} where
   marker_viewed f g Discard = refl
   marker_viewed f g (Wait site) = refl
   marker_viewed f g (Branch one other) = refl
-  marker_viewed f g Enter = refl
+  marker_viewed f g (Enter loop) = refl
+  marker_viewed f g (EnterTurn loop) = refl
   marker_viewed f g (Decide loop) = refl
   marker_viewed f g (Begin loop) = refl
   marker_viewed f g (Again loop) = refl

@@ -15,7 +15,7 @@ use Rattle.task_machine.specs.Loops.{Loop}
 use Rattle.task_machine.specs.declared.tasks.Marker.{Marker}
 use Rattle.task_machine.specs.declared.tasks.Marker.TheVariants.{Plain, TurnEnd, TurnStart, BodyEnd}
 use Rattle.task_machine.specs.declared.tasks.Task.{Task}
-use Rattle.task_machine.specs.declared.tasks.Task.TheVariants.{Number, Variable, Unary, Binary, Fit, Call, Truth, AndThen, OrElse, Choose, Load, Reread, Store, Clear, Assign, Discard, Wait, Branch, Enter, Decide, Begin, Again, Invoke, CallEnd, Break, Continue, Return}
+use Rattle.task_machine.specs.declared.tasks.Task.TheVariants.{Number, Variable, Unary, Binary, Fit, Call, Truth, AndThen, OrElse, Choose, Load, Reread, Store, Clear, Assign, Discard, Wait, Branch, Enter, EnterTurn, Decide, Begin, Again, Invoke, CallEnd, Break, Continue, Return}
 use Rattle.task_machine.specs.Operators.{least_of, greatest_of, clamped, magnitude, high_product}
 use Rattle.item_settings.specs.Settings.{Setting, elem_size, element_in, low_bytes}
 
@@ -165,7 +165,8 @@ task_step parts at (Assign k elem) s = Go (with_variable k (fitted elem (top s.v
 task_step parts at Discard s = Go (holding (under s.values) s)
 task_step parts at (Wait site) s = Ask (Barrier (record { site = site; turns = reverse s.turns })) (λ answer. s)
 task_step parts at (Branch one other) s = Go (onward (if top s.values == 0 then optional parts.body other s.tasks else parts.body one s.tasks) (holding (under s.values) s))
-task_step parts at Enter s = Go (turning (0 ∷ s.turns) s)
+task_step parts at (Enter loop) s = Go (turning (0 ∷ s.turns) (onward (headed parts loop loop.test s.tasks) s))
+task_step parts at (EnterTurn loop) s = Go (turning (0 ∷ s.turns) (onward (Begin loop ∷ s.tasks) s))
 task_step parts at (Decide loop) s = Go (if top s.values == 0 then turning (under s.turns) (holding (under s.values) s) else onward (turned parts loop s.tasks) (holding (under s.values) s))
 task_step parts at (Begin loop) s = Go (onward (turned parts loop s.tasks) s)
 task_step parts at (Again loop) s = Go (turning (risen s.turns) (onward (parts.body loop.step (headed parts loop loop.test s.tasks)) s))

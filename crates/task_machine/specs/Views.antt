@@ -18,7 +18,7 @@ use Rattle.task_machine.specs.declared.states.Found.TheVariants.{Moved, Asks, St
 use Rattle.task_machine.specs.declared.states.State.{State as HeldState}
 use Rattle.task_machine.specs.Loops.{Loop}
 use Rattle.task_machine.specs.declared.tasks.Task.{Task}
-use Rattle.task_machine.specs.declared.tasks.Task.TheVariants.{Number, Variable, Unary, Binary, Fit, Call, Truth, AndThen, OrElse, Choose, Load, Reread, Store, Clear, Assign, Discard, Wait, Branch, Enter, Decide, Begin, Again, Invoke, CallEnd, Break, Continue, Return}
+use Rattle.task_machine.specs.declared.tasks.Task.TheVariants.{Number, Variable, Unary, Binary, Fit, Call, Truth, AndThen, OrElse, Choose, Load, Reread, Store, Clear, Assign, Discard, Wait, Branch, Enter, EnterTurn, Decide, Begin, Again, Invoke, CallEnd, Break, Continue, Return}
 use Rattle.task_machine.specs.Tasks as machine
 use Rattle.task_machine.specs.Tasks.{Parts, State, called, headed, holding, onward, optional, risen, top, turned, turning, under, with_variable}
 
@@ -47,7 +47,8 @@ task_by f g (Assign k elem) = Assign k elem
 task_by f g Discard = Discard
 task_by f g (Wait site) = Wait site
 task_by f g (Branch one other) = Branch (g one) (option_map g other)
-task_by f g Enter = Enter
+task_by f g (Enter loop) = Enter (loop_by f g loop)
+task_by f g (EnterTurn loop) = EnterTurn (loop_by f g loop)
 task_by f g (Decide loop) = Decide (loop_by f g loop)
 task_by f g (Begin loop) = Begin (loop_by f g loop)
 task_by f g (Again loop) = Again (loop_by f g loop)
@@ -128,7 +129,8 @@ decided parts loop s = if top s.values == 0 then turning (under s.turns) (holdin
 
 -- the state behind a task of a loop
 abbrev pub looped : {V T : Type 0} → Parts V T → Task V T → State V T → State V T
-looped parts Enter s = turning (0 ∷ s.turns) s
+looped parts (Enter loop) s = turning (0 ∷ s.turns) (onward (headed parts loop loop.test s.tasks) s)
+looped parts (EnterTurn loop) s = turning (0 ∷ s.turns) (onward (Begin loop ∷ s.tasks) s)
 looped parts (Decide loop) s = decided parts loop s
 looped parts (Begin loop) s = onward (turned parts loop s.tasks) s
 looped parts (Again loop) s = turning (risen s.turns) (onward (parts.body loop.step (headed parts loop loop.test s.tasks)) s)

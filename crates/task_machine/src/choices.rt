@@ -56,7 +56,8 @@ impl<V: Drop, T: Drop> State<V, T> {
             Task::Fit(_) | Task::Call { .. } | Task::Truth => Ok(()),
             Task::Clear(_) | Task::Assign { .. } | Task::Discard => Ok(()),
             Task::Load { .. } | Task::Reread { .. } | Task::Store { .. } | Task::Wait(_) => Ok(()),
-            Task::Enter | Task::Decide(_) | Task::Begin(_) | Task::Again(_) => Ok(()),
+            Task::Enter(_) | Task::EnterTurn(_) => Ok(()),
+            Task::Decide(_) | Task::Begin(_) | Task::Again(_) => Ok(()),
             Task::Invoke(_) | Task::CallEnd => Ok(()),
             Task::Break | Task::Continue | Task::Return => Ok(()),
         }

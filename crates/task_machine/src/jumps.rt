@@ -67,7 +67,8 @@ impl<V: Drop, T: Drop> State<V, T> {
             Task::AndThen(_) | Task::OrElse(_) | Task::Choose { .. } | Task::Branch { .. } => Ok(
                 (),
             ),
-            Task::Enter | Task::Decide(_) | Task::Begin(_) | Task::Again(_) => Ok(()),
+            Task::Enter(_) | Task::EnterTurn(_) => Ok(()),
+            Task::Decide(_) | Task::Begin(_) | Task::Again(_) => Ok(()),
         }
     }
 

@@ -69,7 +69,14 @@ impl<V: Drop, T: Drop> State<V, T> {
         ensures { OnOk result (state_of F.expr_of F.stmt_of self.new ≡ looped (F.parts form.now) (task_by F.expr_of F.stmt_of task) (state_of F.expr_of F.stmt_of self.old)) }
     {
         match task {
-            Task::Enter => self.turns.push(0),
+            Task::Enter(turning) => {
+                self.turns.push(0)?;
+                push_head(form, &mut self.tasks, turning)
+            }
+            Task::EnterTurn(turning) => {
+                self.turns.push(0)?;
+                self.tasks.push(Task::Begin(turning))
+            }
             Task::Decide(turning) => self.decide(form, turning),
             Task::Begin(turning) => push_turn(form, &mut self.tasks, turning),
             Task::Again(turning) => {

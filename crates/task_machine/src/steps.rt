@@ -76,7 +76,11 @@ impl<V: Drop, T: Drop> State<V, T> {
                 self.choose(form, task)?;
                 Ok(Found::Moved)
             }
-            Task::Enter | Task::Decide(_) | Task::Begin(_) | Task::Again(_) => {
+            Task::Enter(_) | Task::EnterTurn(_) => {
+                self.turn_loop(form, task)?;
+                Ok(Found::Moved)
+            }
+            Task::Decide(_) | Task::Begin(_) | Task::Again(_) => {
                 self.turn_loop(form, task)?;
                 Ok(Found::Moved)
             }

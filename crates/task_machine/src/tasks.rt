@@ -85,8 +85,10 @@ pub enum Task<V, T> {
         /// What runs where the value is 0.
         other: Option<T>,
     },
-    /// A loop is entered.
-    Enter,
+    /// This loop is entered, with its test.
+    Enter(Loop<V, T>),
+    /// This loop is entered, with a turn.
+    EnterTurn(Loop<V, T>),
     /// A turn of this loop begins where the value on top is not 0.
     Decide(Loop<V, T>),
     /// A turn of this loop begins.
@@ -151,7 +153,8 @@ impl<V, T> Task<V, T> {
             | Task::Discard
             | Task::Wait(_)
             | Task::Branch { .. }
-            | Task::Enter
+            | Task::Enter(_)
+            | Task::EnterTurn(_)
             | Task::Invoke(_)
             | Task::Break
             | Task::Continue

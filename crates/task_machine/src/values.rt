@@ -138,7 +138,8 @@ impl<V: Drop, T: Drop> State<V, T> {
             ),
             Task::Load { .. } | Task::Reread { .. } | Task::Store { .. } | Task::Wait(_) => Ok(()),
             Task::Clear(_) | Task::Assign { .. } | Task::Discard => Ok(()),
-            Task::Enter | Task::Decide(_) | Task::Begin(_) | Task::Again(_) => Ok(()),
+            Task::Enter(_) | Task::EnterTurn(_) => Ok(()),
+            Task::Decide(_) | Task::Begin(_) | Task::Again(_) => Ok(()),
             Task::Invoke(_) | Task::CallEnd => Ok(()),
             Task::Break | Task::Continue | Task::Return => Ok(()),
         }
@@ -164,7 +165,8 @@ impl<V: Drop, T: Drop> State<V, T> {
                 (),
             ),
             Task::Load { .. } | Task::Reread { .. } | Task::Store { .. } | Task::Wait(_) => Ok(()),
-            Task::Enter | Task::Decide(_) | Task::Begin(_) | Task::Again(_) => Ok(()),
+            Task::Enter(_) | Task::EnterTurn(_) => Ok(()),
+            Task::Decide(_) | Task::Begin(_) | Task::Again(_) => Ok(()),
             Task::Invoke(_) | Task::CallEnd => Ok(()),
             Task::Break | Task::Continue | Task::Return => Ok(()),
         }

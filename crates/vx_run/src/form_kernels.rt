@@ -10,6 +10,7 @@ pub(crate) mod collatz;
 pub(crate) mod early_return;
 pub(crate) mod power;
 pub(crate) mod reduction;
+pub(crate) mod skipped;
 pub(crate) mod squares;
 
 /// A place that does not matter.

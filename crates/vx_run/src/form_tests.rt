@@ -1,6 +1,6 @@
 //! Worked kernels in three forms: as their text has them, with their calls expanded, and as structured code made by hand. Their
 //! work-items are run side by side over plain lists of bytes, and ask for the same, one action after another.
-use crate::form_kernels::{collatz, early_return, power, reduction, squares};
+use crate::form_kernels::{collatz, early_return, power, reduction, skipped, squares};
 use item_acts::{Action, Asked, Bound, BoundList, ItemCode, Place, Range};
 use kir::{Kir, KirItems};
 use ocl_inline::expand;
@@ -166,6 +166,7 @@ fn three_forms_ask_alike(rt: HostRuntime) -> Result<(), Fail> {
         (reduction::TEXT, reduction::code(alloc)?, 70),
         (squares::TEXT, squares::code(alloc)?, 24),
         (power::TEXT, power::code(alloc)?, 56),
+        (skipped::TEXT, skipped::code(alloc)?, 32),
     ] {
         let (source, flat) = actions_of_text(alloc, text)?;
         assert_eq!(rt; source.as_str().lines().count(), actions, "{text}");

@@ -18,9 +18,9 @@ push_stmt-returns-in_ok-push_entered-in-For t c =
     let first = typed_stmts c.as_slice-in-For.result.now in
     on_done c.push_stmts.result
     (λ e. e ∙ ap (stmts_tasks program scope first) c.in_ok-push_entered-in-For.ensures
-    ∙ ap (λ test. stmts_tasks program scope first (entered_tasks program scope test (typed_stmts c.as_slice.result.now) (stmt_node c.deref-in-For.result.now) before))
+    ∙ ap (λ test. stmts_tasks program scope first (entered_tasks scope test (typed_stmts c.as_slice.result.now) (stmt_node c.deref-in-For.result.now) before))
     (test_seen (λ r. r.now) c.as_ref.result ∙ ap (option_map node_of) c.as_ref.ensures.value)
-    ∙ ap (λ body. stmts_tasks program scope first (entered_tasks program scope (option_map node_of c.in-For.test) (typed_stmts c.as_slice.result.now) (stmt_node body) before)) c.deref-in-For.ensures
+    ∙ ap (λ body. stmts_tasks program scope first (entered_tasks scope (option_map node_of c.in-For.test) (typed_stmts c.as_slice.result.now) (stmt_node body) before)) c.deref-in-For.ensures
     ∙ for_tasks program scope c.args.stmt.now c.in-For.first c.in-For.test c.in-For.step c.in-For.body c.as_slice-in-For.result.now c.as_slice.result.now
     c.in-For.is c.as_slice-in-For.ensures.value c.as_slice.ensures.value before)
     c.push_stmts.ensures
