@@ -6,7 +6,7 @@ use Rattle.vx_base.specs.declared.types.Pos.{Pos}
 use Rattle.ocl_program.specs.declared.exprs.ArrayRef.TheVariants.{Parameter}
 use Rattle.kir.specs.Measures.{IsChecked, IsPoint, branching, calls, jumps, nesting, runs, sites}
 use Rattle.kir.specs.Trees.{Operand, VariableOf, NumberOf, Op, Set, Calculate, Load, Store, Check, Barrier, If, Loop, Break, Return, Call, Ops, NoOps, AndOp}
-use Rattle.kir.specs.Weights.{flagged_weight, weight}
+use Rattle.kir.specs.Weights.{weight}
 
 abbrev here : Pos
 here = record { line = 1; col = 1 }
@@ -66,7 +66,7 @@ element_weight : weight (ops_of (element [])) ≡ 27
 element_weight = refl
 
 -- a loop without an end
-endless_weight : flagged_weight (ops_of (Loop NoOps (NumberOf 1) NoOps NoOps ∷ [])) ≡ 33
+endless_weight : weight (ops_of (Loop NoOps (NumberOf 1) NoOps NoOps ∷ [])) ≡ 13
 endless_weight = refl
 
 -- ---- checks

@@ -1,7 +1,10 @@
 pub mod Trees
 pub mod Shapes
+pub mod Lists
 pub mod Machine
 pub mod Views
 pub mod Launches
 pub mod Measures
 pub mod Weights
+pub mod FlaggedWords
+pub mod Numbered

@@ -1,10 +1,9 @@
 -- How many words of code operations come to at most, where each variable is a word of memory that is loaded before it is used and
 -- stored behind, and a branch that may part the work-items of a warp keeps a word of its own.
-use Rattle.std.specs.Prelude.{ℕ, ◌+◌, ◌*◌, false}
+use Rattle.std.specs.Prelude.{ℕ, ◌+◌}
 use Rattle.ocl_program.specs.declared.exprs.ArrayRef.{ArrayRef}
 use Rattle.ocl_program.specs.declared.exprs.ArrayRef.TheVariants.{Parameter, Declared}
-use Rattle.kir.specs.Trees.{Operand, VariableOf, NumberOf, Op, Set, Calculate, Fit, Id, Load, Store, Check, Barrier, If, Loop, Break, Continue, Return, Call, Ops, NoOps, AndOp}
-use Rattle.kir.specs.Measures.{runs}
+use Rattle.kir.specs.Trees.{Operand, VariableOf, NumberOf, Op, Set, Calculate, Fit, Id, Load, Store, Check, Barrier, If, Loop, Call, Ops, NoOps, AndOp}
 
 -- ---- parts
 
@@ -62,24 +61,6 @@ if_words test = test_words test + 9
 abbrev pub loop_words : Operand → ℕ
 loop_words test = test_words test + 10
 
--- ---- what jumps come to once they are flags
-
--- a loop with its two flags, and what is left of them behind it
-abbrev pub flagged_loop_words : Operand → ℕ
-flagged_loop_words test = test_words test + 30
-
--- a jump clears up to three flags
-abbrev pub jump_words : ℕ
-jump_words = 9
-
--- a call has a flag
-abbrev pub call_words : ℕ
-call_words = 8
-
--- a run of single operations stands under a branch
-abbrev pub guard_words : ℕ
-guard_words = 8
-
 -- ---- the whole
 
 -- the words of an operation that holds no others; jumps and calls have none
@@ -105,22 +86,3 @@ abbrev mutual
   weight_in (Loop head test body step) = loop_words test + (weight head + (weight body + weight step))
   weight_in (Call body) = weight body
   weight_in other = single_words other
-
-abbrev mutual
-  -- the words of operations once jumps are flags, but for the branches round runs of single operations
-  pub unguarded_weight : Ops → ℕ
-  unguarded_weight NoOps = 0
-  unguarded_weight (AndOp op ops) = unguarded_in op + unguarded_weight ops
-
-  pub unguarded_in : Op → ℕ
-  unguarded_in (If test one other) = if_words test + (unguarded_weight one + unguarded_weight other)
-  unguarded_in (Loop head test body step) = flagged_loop_words test + (unguarded_weight head + (unguarded_weight body + unguarded_weight step))
-  unguarded_in Break = jump_words
-  unguarded_in Continue = jump_words
-  unguarded_in Return = jump_words
-  unguarded_in (Call body) = call_words + unguarded_weight body
-  unguarded_in other = single_words other
-
--- the words of operations once jumps are flags
-abbrev pub flagged_weight : Ops → ℕ
-flagged_weight ops = unguarded_weight ops + guard_words * runs false ops

@@ -10,6 +10,7 @@ pub mod accesses;
 pub mod computing;
 pub mod items;
 pub mod jumps;
+pub mod lists;
 pub mod nodes;
 pub mod opening;
 pub mod ops;
@@ -22,5 +23,6 @@ mod tests;
 pub mod turns;
 
 pub use items::{KirItems, kir_next};
+pub use lists::{put, put_set};
 pub use nodes::{call_op, if_op, loop_op};
 pub use ops::{Kir, Op, Operand};

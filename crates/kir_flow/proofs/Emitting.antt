@@ -1,6 +1,7 @@
 -- What the code puts behind what it has put, step by step, and the room that flags have.
-use Rattle.std.proofs.Common.{◌≡◌, ℕ, zero, suc, ◌+◌, ◌<◌, ◌≤◌, max, Bool, true, false, not, ◌&&◌, List, [], ◌∷◌, Result, Ok, Err, OnOk, ◌^◌, length, drop, get_or, refl, sym, ap, ◌∙◌, arith}
+use Rattle.std.proofs.Common.{◌≡◌, ℕ, zero, suc, ◌+◌, ◌<◌, ◌≤◌, max, min, Bool, true, false, not, ◌&&◌, List, [], ◌∷◌, Result, Ok, Err, OnOk, ◌^◌, length, drop, get_or, refl, sym, ap, ◌∙◌, arith}
 use Rattle.std.specs.Prelude.{if◌then◌else◌}
+use Rattle.ocl_program.specs.Measures.{cut}
 use Rattle.kir.specs.Measures.{is_single}
 use Rattle.kir.specs.Shapes.{op_of, ops_of}
 use Rattle.kir.specs.Trees.{Operand, NumberOf, Op, Set, Calculate, Fit, Id, Load, Store, Check, Barrier, If, Loop, Break, Continue, Return, Call, Ops, NoOps, AndOp}
@@ -10,8 +11,9 @@ use Rattle.kir_flow.specs.declared.scopes.Scope.TheVariants.{InCall}
 use Rattle.kir_flow.specs.declared.scopes.Jump.TheVariants.{ByContinue}
 use Rattle.kir_flow.specs.Flagging.{flagged, flagged_op, guarded, inside, is_flagged, leaves, op_is_left, op_room, room}
 use Rattle.kir_flow.specs.Sizes.{op_size, size}
-use Rattle.kir_flow.specs.Views.{Puts, onto, turn_of, turn_room}
-use Rattle.kir_flow.proofs.Reading.{all_left, next_left, onto_none}
+use Rattle.kir.specs.Lists.{Puts, onto}
+use Rattle.kir_flow.specs.Views.{turn_of, turn_room}
+use Rattle.kir_flow.proofs.Reading.{all_left, next_left}
 
 pub left_max : (a b : ℕ) → a ≤ max a b
 left_max a b = omega arith
@@ -82,12 +84,6 @@ pub on_done : {A E P Q : Type 0} (r : Result A E) → (P → Q) → OnOk r P →
 on_done (Ok x) f h = f h
 on_done (Err x) f h = h
 
-pub made_of : (old new : List HeldOp) (g : Ops → Ops) → old ≡ [] → Puts old new g → ops_of new ≡ g NoOps
-made_of old new g none puts = sym (onto_none new) ∙ puts NoOps ∙ ap (λ xs. onto xs (g NoOps)) none
-
-pub made_on : (old mid new : List HeldOp) (f g : Ops → Ops) → old ≡ [] → Puts old mid f → Puts mid new g → ops_of new ≡ f (g NoOps)
-made_on old mid new f g none first second = sym (onto_none new) ∙ second NoOps ∙ first (g NoOps) ∙ ap (λ xs. onto xs (f (g NoOps))) none
-
 -- ---- room
 
 pub room_here : (n : ℕ) (sure : Bool) (op : Op) (rest : Ops) → n + room sure (AndOp op rest) < 2 ^ 32 → n + op_room sure op < 2 ^ 32
@@ -119,18 +115,20 @@ loop_is f sure head test body step c e =
     (AndOp (Set (inside f) (NumberOf 1)) (flagged false (InCall (inside f)) true body NoOps)) (flagged false f true body NoOps)
     (λ turn. AndOp (Loop (flagged false f true head NoOps) test turn (flagged false f true step NoOps)) c) e
 
--- ---- counting flags
+-- ---- counting flags, up to the greatest word
 
-pub room_under : (most whole : ℕ) (sure : Bool) (op : Op) (rest : Ops) → max most (room sure (AndOp op rest)) ≡ whole → whole < 2 ^ 32 → op_room sure op < 2 ^ 32
-room_under most whole sure op rest e h =
-    let part = left_max (op_room sure op) (room (sure && not (op_is_left op)) rest) in
-    let inner = right_max most (room sure (AndOp op rest)) in
-    omega (arith, part, inner)
+-- the greater of two counts, and one or two more
+pub cut_both : (a b m n : ℕ) → a ≡ cut m → b ≡ cut n → max a b ≡ cut (max m n)
+cut_both a b m n e e' = omega arith
 
-pub room_more : (most whole next : ℕ) (sure after : Bool) (op : Op) (rest : Ops) → max most (room sure (AndOp op rest)) ≡ whole → next ≡ max most (op_room sure op)
-    → after ≡ (sure && not (op_is_left op)) → max next (room after rest) ≡ whole
+pub two_more : (a m : ℕ) → a ≡ cut m → min (a + 2) 4294967295 ≡ cut (2 + m)
+two_more a m e = omega arith
+
+pub room_more : (most whole next : ℕ) (sure after : Bool) (op : Op) (rest : Ops) → max most (cut (room sure (AndOp op rest))) ≡ whole → next ≡ max most (cut (op_room sure op))
+    → after ≡ (sure && not (op_is_left op)) → max next (cut (room after rest)) ≡ whole
 room_more most whole next sure after op rest e e' e'' =
-    ap (λ b. max next (room b rest)) e'' ∙ ap (λ n. max n (room (sure && not (op_is_left op)) rest)) e' ∙ (omega arith) ∙ e
+    ap (λ b. max next (cut (room b rest))) e'' ∙ ap (λ n. max n (cut (room (sure && not (op_is_left op)) rest))) e'
+    ∙ (omega arith) ∙ e
 
 pub cut_room : (sure : Bool) (head : Ops) (test : Operand) (body step : Ops) → is_flagged sure head body step ≡ true
     → op_room sure (Loop head test body step) ≡ 2 + max (room false head) (max (room true body) (room false step))

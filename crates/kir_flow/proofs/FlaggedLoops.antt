@@ -17,7 +17,7 @@ use Rattle.kir_flow.specs.declared.scopes.Jump.TheVariants.{ByBreak, ByContinue,
 use Rattle.kir_flow.specs.declared.scopes.Scope.TheVariants.{InCall, InBody, InEdge}
 use Rattle.kir_flow.specs.Flagging.{live, whole, inside, leaves, op_leaves, body_scope, edge_scope, flagged}
 use Rattle.kir_flow.specs.Flagging.{flagged_loop, tests, passed_on, alive}
-use Rattle.kir_flow.specs.Numbered.{IsBelow}
+use Rattle.kir.specs.Numbered.{IsBelow}
 use Rattle.kir_flow.proofs.FlagStates.{Along, Fate, Alive, Skipped, Broken, Returned, live_bit, run_bit, whole_bit, fate_of, whole_inside, SameTo, sets, calculates, ends}
 use Rattle.kir_flow.proofs.FlagStates.{dead_test, live_test}
 use Rattle.kir_flow.proofs.Silence.{silent, loop_of, quiet_head}

@@ -22,7 +22,7 @@ use Rattle.kir_flow.specs.declared.scopes.Jump.{Jump}
 use Rattle.kir_flow.specs.declared.scopes.Jump.TheVariants.{ByBreak, ByContinue, ByReturn}
 use Rattle.kir_flow.specs.declared.scopes.Scope.TheVariants.{InCall}
 use Rattle.kir_flow.specs.Flagging.{flagged, flags}
-use Rattle.kir_flow.specs.Numbered.{AreBelow, GivesWords}
+use Rattle.kir.specs.Numbered.{AreBelow, GivesWords}
 use Rattle.kir_flow.proofs.FlagStates.{Along, sets}
 use Rattle.kir_flow.proofs.FollowStates.{jumped}
 use Rattle.kir_flow.proofs.Follows.{follows}

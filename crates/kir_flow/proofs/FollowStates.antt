@@ -20,7 +20,7 @@ use Rattle.kir_flow.specs.declared.scopes.Scope.{Scope}
 use Rattle.kir_flow.specs.declared.scopes.Jump.TheVariants.{ByBreak, ByContinue, ByReturn}
 use Rattle.kir_flow.specs.declared.scopes.Scope.TheVariants.{InCall, InBody, InEdge}
 use Rattle.kir_flow.specs.Flagging.{live, run, whole, inside, leaves, op_leaves, flagged, flagged_op}
-use Rattle.kir_flow.specs.Numbered.{IsBelow, OpBelow, GivesWords}
+use Rattle.kir.specs.Numbered.{IsBelow, OpBelow, GivesWords}
 use Rattle.kir_flow.proofs.FlagStates.{Along, Fate, Alive, live_bit, fate_of, Stands, Ordered, whole_inside, run_inside, live_inside, SameTo}
 
 -- the flags are numbered behind the variables of the kernel

@@ -10,7 +10,7 @@ use Rattle.kir_flow.specs.declared.scopes.Jump.TheVariants.{ByBreak, ByContinue,
 use Rattle.kir_flow.specs.declared.scopes.Scope.TheVariants.{InCall}
 use Rattle.kir_flow.specs.Flagging.{inside, leaves, op_leaves, is_left, op_is_left, is_cut, is_flagged, body_scope, edge_scope}
 use Rattle.kir_flow.specs.Flagging.{passed_on, tests, guarded, flagged_loop, flagged, flagged_op}
-use Rattle.kir_flow.specs.Numbered.{IsBelow, AreBelow, OpBelow, GivesWords}
+use Rattle.kir.specs.Numbered.{IsBelow, AreBelow, OpBelow, GivesWords}
 use Rattle.kir_flow.proofs.FlagStates.{Along}
 use Rattle.kir_flow.proofs.FollowStates.{Follows, FollowsOp}
 use Rattle.kir_flow.proofs.StraightFollows.{FollowsAmong, if_follows, break_follows, continue_follows, return_follows, call_follows, cons_follows, single_cons, among_cons}

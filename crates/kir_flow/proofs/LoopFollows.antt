@@ -13,7 +13,7 @@ use Rattle.kir_flow.specs.declared.scopes.Scope.{Scope}
 use Rattle.kir_flow.specs.declared.scopes.Jump.TheVariants.{ByBreak, ByContinue, ByReturn}
 use Rattle.kir_flow.specs.declared.scopes.Scope.TheVariants.{InCall}
 use Rattle.kir_flow.specs.Flagging.{inside, leaves, is_left, flagged}
-use Rattle.kir_flow.specs.Numbered.{IsBelow}
+use Rattle.kir.specs.Numbered.{IsBelow}
 use Rattle.kir_flow.proofs.FlagStates.{Along, Alive, Returned, sets}
 use Rattle.kir_flow.proofs.FollowStates.{Fine, Alike, value_same, Next, Leave, Follows}
 use Rattle.kir_flow.proofs.StraightFollows.{left_by, fine_inside, alike_inside, alike_outside}

@@ -1,13 +1,14 @@
 -- Lists of the code's operations, from one on.
-use Rattle.std.proofs.Common.{◌≡◌, ℕ, zero, suc, ◌+◌, ◌<◌, ◌≤◌, true, false, List, [], ◌∷◌, ◌++◌, length, drop, get_or, refl, sym, ap, ◌∙◌, arith}
+use Rattle.std.proofs.Common.{◌≡◌, ℕ, zero, suc, ◌+◌, ◌<◌, ◌≤◌, true, false, List, [], ◌∷◌, length, drop, get_or, refl, sym, ap, ◌∙◌, arith}
 use Rattle.std.proofs.lemmas.List.{drop_more}
 use Rattle.std.specs.Prelude.{if◌then◌else◌}
 use Rattle.kir.specs.Measures.{is_single}
 use Rattle.kir.specs.Shapes.{op_of, ops_of}
 use Rattle.kir.specs.Trees.{Ops, NoOps, AndOp}
 use Rattle.kir.specs.declared.ops.Op.{Op as HeldOp}
+use Rattle.kir.proofs.Putting.{onto_none}
 use Rattle.kir_flow.specs.Flagging.{singles}
-use Rattle.kir_flow.specs.Views.{onto}
+use Rattle.kir.specs.Lists.{onto}
 
 none_left : {A : Type 0} (k : ℕ) → drop {A = A} k [] ≡ []
 none_left zero = refl
@@ -20,15 +21,6 @@ all_left (x ∷ xs) (suc k) past = all_left xs k (omega arith)
 
 pub next_left : {A : Type 0} (xs : List A) (k : ℕ) (x : A) → k < length xs → x ≡ get_or xs k x → drop k xs ≡ x ∷ drop (k + 1) xs
 next_left xs k x within is = drop_more xs k x within ∙ ap (λ y. y ∷ drop (k + 1) xs) (sym is)
-
--- one operation more behind others
-pub onto_push : (ops : List HeldOp) (op : HeldOp) (c : Ops) → onto (ops ++ op ∷ []) c ≡ onto ops (AndOp (op_of op) c)
-onto_push [] op c = refl
-onto_push (x ∷ xs) op c = ap (AndOp (op_of x)) (onto_push xs op c)
-
-pub onto_none : (ops : List HeldOp) → onto ops NoOps ≡ ops_of ops
-onto_none [] = refl
-onto_none (x ∷ xs) = ap (AndOp (op_of x)) (onto_none xs)
 
 -- single operations end at one that is none, and at the last
 pub singles_end : (copy ops : List HeldOp) (k : ℕ) (op : HeldOp) (whole : Ops) → k < length ops → op ≡ get_or ops k op → is_single (op_of op) ≡ false

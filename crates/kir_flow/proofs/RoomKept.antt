@@ -12,7 +12,7 @@ use Rattle.kir_flow.specs.declared.scopes.Scope.TheVariants.{InCall, InBody, InE
 use Rattle.kir_flow.specs.Flagging.{live, run, whole, inside, leaves, op_leaves, is_left, op_is_left}
 use Rattle.kir_flow.specs.Flagging.{is_flagged, body_scope, edge_scope, clear, dies, jump_ops, passed_on, tests, alive, singles, guarded, flagged_loop, flagged, flagged_op}
 use Rattle.kir_flow.specs.Flagging.{room, op_room, flags}
-use Rattle.kir_flow.specs.Numbered.{IsBelow, AreBelow, OpBelow}
+use Rattle.kir.specs.Numbered.{IsBelow, AreBelow, OpBelow}
 use Rattle.kir_flow.proofs.FlagStates.{run_inside, live_inside}
 
 -- ---- how many flags

@@ -16,7 +16,7 @@ use Rattle.kir_flow.specs.declared.scopes.Jump.TheVariants.{ByBreak, ByContinue,
 use Rattle.kir_flow.specs.declared.scopes.Scope.TheVariants.{InCall}
 use Rattle.kir_flow.specs.Flagging.{live, inside, leaves, op_leaves, is_left, op_is_left, singles, guarded, flagged}
 use Rattle.kir_flow.specs.Flagging.{flagged_op, alive}
-use Rattle.kir_flow.specs.Numbered.{IsBelow, OpBelow, GivesWords}
+use Rattle.kir.specs.Numbered.{IsBelow, OpBelow, GivesWords}
 use Rattle.kir_flow.proofs.FlagStates.{Along, Fate, Alive, fate_of, sets, takes_one}
 use Rattle.kir_flow.proofs.Silence.{silent}
 use Rattle.kir_flow.proofs.FollowStates.{Fine, Alike, live_behind, value_same, alike_same, outward, jumped, jump_skips, jump_kills, Next, Leave, Follows, FollowsOp, single_follows}

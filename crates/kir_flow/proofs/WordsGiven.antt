@@ -10,7 +10,7 @@ use Rattle.ocl_program.specs.declared.exprs.Builtin.TheVariants as builtin
 use Rattle.item_settings.specs.Settings.{size_in, group_size, groups_in, coordinate, group_number, local_number, group_id, local_id}
 use Rattle.kir.specs.Machine.{code_setting}
 use Rattle.kir.specs.Trees.{KirCode}
-use Rattle.kir_flow.specs.Numbered.{GivesWords}
+use Rattle.kir.specs.Numbered.{GivesWords}
 
 size_word : (range : Range) (sizes : List ℕ) (d : ℕ) → ((k : ℕ) → slice_index sizes k < 2 ^ 32) → size_in range sizes d < 2 ^ 32
 size_word range sizes d words = cond_both (nat_lt d range.dims) (slice_index sizes d) 1 (λ x. x < 2 ^ 32) (λ e. words d) (λ e. omega arith)

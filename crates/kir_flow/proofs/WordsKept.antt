@@ -6,7 +6,7 @@ use Rattle.kir.specs.Measures.{is_single, runs, runs_in}
 use Rattle.kir.specs.Trees.{Operand, VariableOf, NumberOf, Op, Set, Calculate, Fit, Id, Load, Store, Check, Barrier, If, Loop, Break, Continue, Return, Call, Ops, NoOps, AndOp}
 use Rattle.kir.specs.Trees.{KirCode}
 use Rattle.kir.specs.Weights.{operand_words, test_words, if_words, set_words, weight, weight_in}
-use Rattle.kir_flow.specs.FlaggedWords.{unguarded, op_unguarded, flagged_words}
+use Rattle.kir.specs.FlaggedWords.{unguarded, op_unguarded, flagged_words}
 use Rattle.kir_flow.specs.declared.scopes.Jump.{Jump}
 use Rattle.kir_flow.specs.declared.scopes.Scope.{Scope}
 use Rattle.kir_flow.specs.declared.scopes.Jump.TheVariants.{ByBreak, ByContinue, ByReturn}

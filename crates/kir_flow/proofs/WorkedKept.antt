@@ -5,7 +5,7 @@ use Rattle.item_acts.specs.declared.acts.Bound.TheVariants.{Array}
 use Rattle.step_machine.specs.Alike.{AskAlike}
 use Rattle.kir.specs.Machine.{code_setting, cost, kir_start, step}
 use Rattle.kir_flow.specs.Flagging.{flags}
-use Rattle.kir_flow.specs.Numbered.{AreBelow, GivesWords}
+use Rattle.kir.specs.Numbered.{AreBelow, GivesWords}
 use Rattle.kir_flow.proofs.WorkedFlags.{eight, kernel_of, ops_of, stores}
 use Rattle.kir_flow.proofs.WordsGiven.{gives_words}
 use Rattle.kir_flow.proofs.FlagsKeep.{flags_keep}

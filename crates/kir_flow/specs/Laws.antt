@@ -5,7 +5,7 @@ use Rattle.item_acts.specs.declared.acts.Range.{Range}
 use Rattle.kir.specs.Machine.{code_setting}
 use Rattle.kir.specs.Trees.{KirCode}
 use Rattle.kir_flow.specs.Flagging.{flags}
-use Rattle.kir_flow.specs.Numbered.{GivesWords}
+use Rattle.kir.specs.Numbered.{GivesWords}
 use Rattle.kir_flow.specs.WithoutJumps.{WithoutJumps}
 
 -- every kernel is kept by flags

@@ -1,6 +1,6 @@
 -- What the code's lists of operations are.
-use Rattle.std.specs.Prelude.{◌≡◌, ℕ, suc, if◌then◌else◌, Bool, true, false, List, [], ◌∷◌}
-use Rattle.kir.specs.Shapes.{op_of}
+use Rattle.std.specs.Prelude.{◌≡◌, ℕ, suc, if◌then◌else◌, Bool, true, false, List}
+use Rattle.kir.specs.Lists.{onto}
 use Rattle.vx_base.specs.declared.types.Alu.TheVariants.{And, Mul}
 use Rattle.kir.specs.Trees.{Operand, VariableOf, NumberOf, Op, Set, Calculate, Load, Store, Check, Barrier, Loop, Ops, NoOps, AndOp}
 use Rattle.kir_flow.specs.declared.flagging.Reached.{Reached}
@@ -9,15 +9,6 @@ use Rattle.kir_flow.specs.declared.scopes.Scope.{Scope}
 use Rattle.kir_flow.specs.declared.scopes.Scope.TheVariants.{InCall}
 use Rattle.kir_flow.specs.Flagging.{body_scope, edge_scope, flagged, flagged_loop, inside, leaves, op_leaves, passed_on, room, tests}
 use Rattle.kir.specs.declared.ops.Op.{Op as HeldOp}
-
--- operations in front of others
-abbrev pub onto : List HeldOp → Ops → Ops
-onto [] c = c
-onto (op ∷ ops) c = AndOp (op_of op) (onto ops c)
-
--- Behind the operations before stand those that `f` puts in front of what follows.
-abbrev pub Puts : List HeldOp → List HeldOp → (Ops → Ops) → Type 0
-Puts before after f = (c : Ops) → onto after c ≡ onto before (f c)
 
 -- whether an operation is on an array, or a barrier
 abbrev pub is_access : Op → Bool
@@ -30,9 +21,6 @@ is_access other = false
 -- single operations on flags in front of others
 abbrev pub kept_where : ℕ → ℕ → Ops → Ops
 kept_where flag other c = AndOp (Calculate flag And (VariableOf flag) (VariableOf other)) c
-
-abbrev pub set_op : ℕ → Operand → Ops → Ops
-set_op d a c = AndOp (Set d a) c
 
 -- a loop with its two flags, whatever is known of it
 abbrev pub cut_loop : Scope → Bool → Ops → Operand → Ops → Ops → Ops → Ops

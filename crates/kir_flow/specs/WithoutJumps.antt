@@ -7,8 +7,8 @@ use Rattle.kir.specs.Machine.{code_setting, cost, kir_start, step}
 use Rattle.kir.specs.Measures.{IsChecked, branching, calls, jumps, nesting, sites}
 use Rattle.kir.specs.Trees.{KirCode}
 use Rattle.kir.specs.Weights.{weight}
-use Rattle.kir_flow.specs.FlaggedWords.{flagged_words}
-use Rattle.kir_flow.specs.Numbered.{AreBelow, GivesWords}
+use Rattle.kir.specs.FlaggedWords.{flagged_words}
+use Rattle.kir.specs.Numbered.{AreBelow, GivesWords}
 
 pub record WithoutJumps (code flat : KirCode) : Type 0 where
   -- the parameters and the arrays are the same

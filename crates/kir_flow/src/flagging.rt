@@ -1,15 +1,16 @@
 //! Operations without jumps and calls, in front of what follows.
 ghost use Rattle.std.specs.Prelude.{◌≡◌, ◌<◌, ◌+◌, ◌^◌, ◌&&◌, IfOk, OnOk, if◌then◌else◌, max, not, true, false};
+ghost use Rattle.kir.specs.Lists.{Puts, set_op};
 ghost use Rattle.kir.specs.Measures.{is_single as is_single_of};
 ghost use Rattle.kir.specs.Shapes.{op_of, operand_of, ops_of};
 ghost use Rattle.kir.specs.Trees.{AndOp, Call, If, Loop, NoOps, Ops};
 ghost use Rattle.kir_flow.specs.Flagging.{clear, flagged, flagged_op, guarded, jump_ops, live as live_of, op_is_left as op_is_left_of, op_room, passed_on, room};
-ghost use Rattle.kir_flow.specs.Views.{GoesOn, Puts, cut_loop, kept_where, set_op, test_op, turn_of, turn_room};
+ghost use Rattle.kir_flow.specs.Views.{GoesOn, cut_loop, kept_where, test_op, turn_of, turn_room};
 
 use crate::leaving::{both, is_flagged, is_left, leaves, op_is_left, returns_through};
 use crate::scopes::{Jump, Scope};
-use crate::singles::{copy_single, copy_singles, is_single, put, put_set};
-use kir::{Op, Operand, if_op, loop_op};
+use crate::singles::{copy_single, copy_singles, is_single};
+use kir::{Op, Operand, if_op, loop_op, put, put_set};
 use std::alloc::{AllocError, Global};
 use vx_base::Alu;
 

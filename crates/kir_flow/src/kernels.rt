@@ -1,16 +1,17 @@
 //! Kernels with flags in place of jumps.
-ghost use Rattle.std.specs.Prelude.{◌≡◌, ◌<◌, ◌+◌, ◌^◌, IfOk, max, true, false};
+ghost use Rattle.std.specs.Prelude.{◌≡◌, ◌<◌, ◌+◌, ◌^◌, IfOk, max, nat_lt, true, false};
 ghost use Rattle.kir.specs.Shapes.{code_of, op_of, operand_of, ops_of};
 ghost use Rattle.kir.specs.Trees.{Call, Loop, NoOps, NumberOf};
+ghost use Rattle.ocl_program.specs.Measures.{cut};
 ghost use Rattle.kir_flow.specs.Flagging.{flagged, flags as flags_of, op_room as op_room_of, room as room_of};
-ghost use Rattle.kir_flow.specs.Views.{set_op, turn_room as turn_room_of};
+ghost use Rattle.kir.specs.Lists.{set_op};
+ghost use Rattle.kir_flow.specs.Views.{turn_room as turn_room_of};
 ghost use Rattle.kir_flow.specs.WithoutJumps.{WithoutJumps};
 
 use crate::flagging::push_flagged;
 use crate::leaving::{both, is_flagged, is_left, leaves, op_is_left};
 use crate::scopes::{Jump, Scope};
-use crate::singles::put_set;
-use kir::{Kir, Op, Operand};
+use kir::{Kir, Op, Operand, put_set};
 use std::alloc::{AllocError, Global};
 use vx_base::Memory;
 
@@ -21,11 +22,10 @@ fn greater(one: u32, other: u32) -> u32
     if one < other { other } else { one }
 }
 
-/// How many flags operations need at most, one inside another.
+/// How many flags operations need at most, one inside another, kept up to 2^32 - 1.
 #[cycle(room)]
 fn room(sure: bool, ops: &[Op]) -> u32
-    requires room { room_of sure (ops_of ops.now) < 2 ^ 32 }
-    ensures { result ≡ room_of sure (ops_of ops.now) }
+    ensures { result ≡ cut (room_of sure (ops_of ops.now)) }
 {
     let mut most = 0;
     let mut certain = sure;
@@ -40,8 +40,7 @@ fn room(sure: bool, ops: &[Op]) -> u32
 /// How many flags an operation needs.
 #[cycle(room)]
 fn op_room(sure: bool, op: &Op) -> u32
-    requires room { op_room_of sure (op_of op.now) < 2 ^ 32 }
-    ensures { result ≡ op_room_of sure (op_of op.now) }
+    ensures { result ≡ cut (op_room_of sure (op_of op.now)) }
 {
     match op {
         Op::If { yes, no, .. } => greater(room(sure, yes.as_slice()), room(sure, no.as_slice())),
@@ -61,11 +60,10 @@ fn op_room(sure: bool, op: &Op) -> u32
 /// How many flags a call needs.
 #[cycle(room)]
 fn call_room(sure: bool, body: &[Op]) -> u32
-    requires room { op_room_of sure (Call (ops_of body.now)) < 2 ^ 32 }
-    ensures { result ≡ op_room_of sure (Call (ops_of body.now)) }
+    ensures { result ≡ cut (op_room_of sure (Call (ops_of body.now))) }
 {
     if is_left(body) {
-        room(sure, body) + 1
+        room(sure, body).saturating_add(1)
     } else {
         room(sure, body)
     }
@@ -74,15 +72,11 @@ fn call_room(sure: bool, body: &[Op]) -> u32
 /// How many flags a loop needs.
 #[cycle(room)]
 fn loop_room(sure: bool, head: &[Op], body: &[Op], step: &[Op]) -> u32
-    requires room { op_room_of sure (Loop (ops_of head.now) (NumberOf 0) (ops_of body.now) (ops_of step.now)) < 2 ^ 32 }
-    ensures { result ≡ op_room_of sure (Loop (ops_of head.now) (NumberOf 0) (ops_of body.now) (ops_of step.now)) }
+    ensures { result ≡ cut (op_room_of sure (Loop (ops_of head.now) (NumberOf 0) (ops_of body.now) (ops_of step.now))) }
 {
     if is_flagged(sure, head, body, step) {
-        return 2
-            + greater(
-                room(false, head),
-                greater(room(true, body), room(false, step)),
-            );
+        let inside = greater(room(true, body), room(false, step));
+        return greater(room(false, head), inside).saturating_add(2);
     }
     greater(room(true, head), greater(turn_room(body), room(true, step)))
 }
@@ -90,11 +84,10 @@ fn loop_room(sure: bool, head: &[Op], body: &[Op], step: &[Op]) -> u32
 /// How many flags the turn of a loop needs that no jump leaves.
 #[cycle(room)]
 fn turn_room(body: &[Op]) -> u32
-    requires room { turn_room_of (ops_of body.now) < 2 ^ 32 }
-    ensures { result ≡ turn_room_of (ops_of body.now) }
+    ensures { result ≡ cut (turn_room_of (ops_of body.now)) }
 {
     if leaves(Jump::ByContinue, body) {
-        room(true, body) + 1
+        room(true, body).saturating_add(1)
     } else {
         room(true, body)
     }
@@ -125,6 +118,16 @@ fn flagged_kernel(alloc: Global, code: Kir) -> Result<Kir, Memory>
             ops,
         }),
         Err(_) => Err(Memory),
+    }
+}
+
+/// Whether the numbers of all variables of a kernel are words once its jumps are flags.
+pub fn fits(code: &Kir) -> bool
+    ensures { result ≡ nat_lt (flags_of (code_of code.now)).variables (2 ^ 32) }
+{
+    match code.variables.checked_add(1) {
+        Some(own) => own.checked_add(room(true, code.ops.as_slice())).is_some(),
+        None => false,
     }
 }
 

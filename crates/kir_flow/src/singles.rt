@@ -1,12 +1,11 @@
 //! Single operations.
-ghost use Rattle.std.specs.Prelude.{◌≡◌, IfOk, OnOk, true};
+ghost use Rattle.std.specs.Prelude.{◌≡◌, IfOk, true};
 ghost use Rattle.kir.specs.Measures.{is_single as is_single_of};
-ghost use Rattle.kir.specs.Shapes.{op_of, operand_of, ops_of};
-ghost use Rattle.kir.specs.Trees.{AndOp};
+ghost use Rattle.kir.specs.Shapes.{op_of, ops_of};
 ghost use Rattle.kir_flow.specs.Flagging.{singles};
-ghost use Rattle.kir_flow.specs.Views.{Puts, is_access, set_op};
+ghost use Rattle.kir_flow.specs.Views.{is_access};
 
-use kir::{Op, Operand};
+use kir::{Op, put};
 use std::alloc::{AllocError, Global};
 
 /// Whether an operation holds no others and is no jump.
@@ -104,21 +103,6 @@ fn copy_access(op: &Op) -> Op
         Op::If { .. } | Op::Loop { .. } | Op::Call { .. } => Op::Return,
         Op::Break | Op::Continue | Op::Return => Op::Return,
     }
-}
-
-/// One operation more behind others.
-pub fn put(ops: &mut Vec<Op>, op: Op) -> Result<(), AllocError>
-    ensures { OnOk result (Puts ops.old.items ops.new.items (AndOp (op_of op))) }
-{
-    ops.push(op)?;
-    Ok(())
-}
-
-/// A value into a variable.
-pub fn put_set(out: &mut Vec<Op>, variable: u32, value: Operand) -> Result<(), AllocError>
-    ensures { OnOk result (Puts out.old.items out.new.items (set_op variable (operand_of value))) }
-{
-    put(out, Op::Set { variable, value })
 }
 
 /// The single operations that stand in front.

@@ -2,7 +2,7 @@ ghost use Rattle.std.specs.Prelude.{◌<◌, ◌^◌, IfOk};
 ghost use Rattle.kir.specs.Shapes.{code_of};
 ghost use Rattle.kir_flow.specs.Flagging.{flags as flags_of};
 
-use crate::kernels::flags;
+use crate::kernels::{fits, flags};
 use item_acts::{Action, Asked, Bound, BoundList, Range};
 use kir::{Kir, Op, Operand, kir_next, loop_op};
 use ocl_ast::{Ident, Param, ParamList};
@@ -88,6 +88,7 @@ fn actions_of(alloc: Global, code: &Kir, item: u32) -> Result<String, Fail> {
 fn flags_ask_alike(rt: HostRuntime) -> Result<(), Fail> {
     let alloc = rt.alloc();
     let code = kernel(alloc)?;
+    assert_eq!(rt; fits(&code), true);
     let made = flags(alloc, kernel(alloc)?)?;
     for (item, lines) in [(0, 3), (3, 3)] {
         let actions = actions_of(alloc, &code, item)?;

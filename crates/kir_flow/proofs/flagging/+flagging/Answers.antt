@@ -4,8 +4,10 @@ use Rattle.kir.specs.Trees.{If, Loop, Call, Ops, AndOp, NoOps}
 use Rattle.kir.proofs.Rows.{call_seen, if_seen, loop_seen}
 use Rattle.kir_flow.specs.Flagging.{flagged, live, op_room, room}
 use Rattle.kir_flow.specs.Sizes.{op_size, size}
-use Rattle.kir_flow.specs.Views.{onto, set_op, test_op, turn_of, turn_room}
-use Rattle.kir_flow.proofs.Emitting.{first_of, left_max, loop_is, loop_room, made_of, made_on, on_done, right_max, room_here, size_at, some_size}
+use Rattle.kir.specs.Lists.{onto, set_op}
+use Rattle.kir.proofs.Putting.{made_of, made_on}
+use Rattle.kir_flow.specs.Views.{test_op, turn_of, turn_room}
+use Rattle.kir_flow.proofs.Emitting.{first_of, left_max, loop_is, loop_room, on_done, right_max, room_here, size_at, some_size}
 use Rattle.kir_flow.proofs.flagging.+flagging.Goals as goal
 
 pub push_flagged-push_next-requires : goal.push_flagged-push_next-requires
@@ -26,7 +28,7 @@ flagged_ops-returns t c =
 
 pub started_ops-returns : goal.started_ops-returns
 started_ops-returns t c =
-    made_on c.new-list.result.items c.put_set.new.out.items c.push_flagged.new.out.items (set_op c.args.flag (operand_of c.args.value)) (flagged false c.args.scope c.args.sure (ops_of c.args.ops.now))
+    made_on c.new-list.result.items c.put_set.new.ops.items c.push_flagged.new.out.items (set_op c.args.flag (operand_of c.args.value)) (flagged false c.args.scope c.args.sure (ops_of c.args.ops.now))
     c.new-list.ensures.items c.in_ok-put_set.ensures c.in_ok-push_flagged.ensures
 
 pub tested_ops-returns : goal.tested_ops-returns

@@ -3,7 +3,7 @@ use Rattle.kir.specs.Shapes.{op_of, ops_of}
 use Rattle.kir.specs.Trees.{Ops}
 use Rattle.kir_flow.specs.Flagging.{flagged, live, room}
 use Rattle.kir_flow.specs.Sizes.{op_size, size}
-use Rattle.kir_flow.specs.Views.{onto}
+use Rattle.kir.specs.Lists.{onto}
 use Rattle.kir_flow.proofs.flagging.+flagging.Given as goal
 
 abbrev pub decreases-push_flagged : goal.decreases-push_flagged

@@ -1,7 +1,7 @@
 use Rattle.std.proofs.Common.{◌≡◌, drop}
 use Rattle.kir.specs.Shapes.{ops_of}
 use Rattle.kir_flow.specs.Flagging.{singles}
-use Rattle.kir_flow.specs.Views.{onto}
+use Rattle.kir.specs.Lists.{onto}
 use Rattle.kir_flow.proofs.singles.copy_singles.Given as goal
 
 abbrev pub invariant-loop-k : goal.invariant-loop-k

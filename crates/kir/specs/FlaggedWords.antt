@@ -2,7 +2,7 @@
 use Rattle.std.specs.Prelude.{ℕ, ◌+◌, ◌*◌, false}
 use Rattle.kir.specs.Measures.{runs}
 use Rattle.kir.specs.Trees.{Operand, Op, If, Loop, Break, Continue, Return, Call, Ops, NoOps, AndOp}
-use Rattle.kir.specs.Weights.{call_words, if_words, single_words, test_words}
+use Rattle.kir.specs.Weights.{if_words, single_words, test_words}
 
 -- a loop with its two flags, and what is passed on behind it
 abbrev pub flagged_loop_words : Operand → ℕ
@@ -11,6 +11,10 @@ flagged_loop_words test = test_words test + 31
 -- a jump clears up to three flags, two of them by a difference
 abbrev pub jump_words : ℕ
 jump_words = 11
+
+-- a call has a flag
+abbrev pub call_words : ℕ
+call_words = 8
 
 -- the branch that a run of single operations stands under
 abbrev pub guard_words : ℕ
