@@ -1,14 +1,17 @@
 //! The program `front_speed`: takes the tokens of a text that it makes, for measurements of speed (`bench/`). Its words are
 //! what the text is made of, `names`, `marks`, `uses` (of macros that use others), `nested` (macros that stand deep in one
 //! another), `undefs` (macros that are all undefined again), `program` (statements of one function, which it also parses),
-//! `functions` (a thousand functions, of which it also makes the program) or `calls` (a kernel of calls of a helper, which it also
-//! expands, a hundred times), and how many bytes it has at most, up to 1,048,576. It prints the bytes and the tokens.
+//! `functions` (a thousand functions, of which it also makes the program), `calls` (a kernel of calls of a helper) or `loops` (a
+//! kernel of loops that a `break` leaves), and how many bytes it has at most, up to 1,048,576. Of a kernel it also makes structured
+//! code without jumps, a hundred times. It prints the bytes and the tokens.
 #![tactic(auto)]
 
-ghost use Rattle.std.specs.Prelude.{◌≤◌, length};
+ghost use Rattle.std.specs.Prelude.{◌<◌, ◌≤◌, length};
 
-use ocl_inline::kernels::expand;
+use kir_flow::flags;
+use ocl_inline::expand;
 use ocl_lex::{LexFault, lex};
+use ocl_norm::normalise;
 use ocl_parser::parse;
 use ocl_tokens::Tokens;
 use ocl_types::Program;
@@ -28,6 +31,7 @@ enum Kind {
     Program,
     Functions,
     Calls,
+    Loops,
 }
 
 fn kind_of(word: &str) -> Option<Kind> {
@@ -40,6 +44,7 @@ fn kind_of(word: &str) -> Option<Kind> {
         "program" => Some(Kind::Program),
         "functions" => Some(Kind::Functions),
         "calls" => Some(Kind::Calls),
+        "loops" => Some(Kind::Loops),
         _ => None,
     }
 }
@@ -148,12 +153,40 @@ fn calls(alloc: Global, bytes: usize) -> Result<Vec<u8>, AllocError> {
     Ok(text)
 }
 
-/// Whether a program has the kernel `k`, which is then expanded a hundred times.
-fn is_expanded(alloc: Global, program: &Program) -> bool {
+/// A kernel of loops, one behind another.
+fn loops(alloc: Global, bytes: usize) -> Result<Vec<u8>, AllocError> {
+    let mut text = repeated(
+        alloc,
+        b"kernel void k(global int *p) { int b = 1;\n",
+        b"while (b < 9) { if (p[0] == b) break; b++; }\n",
+        bytes.saturating_sub(12),
+    )?;
+    text.extend_from_slice(b"p[0] = b; }\n")?;
+    Ok(text)
+}
+
+/// Whether a kernel becomes structured code without jumps.
+fn is_structured(alloc: Global, program: &Program, kernel: u32) -> bool
+    requires { kernel < length program.now.functions.items }
+{
+    let Ok(flat) = expand(alloc, program, kernel) else {
+        return false;
+    };
+    if !ocl_norm::fits(&flat) {
+        return false;
+    }
+    let Ok(code) = normalise(alloc, &flat) else {
+        return false;
+    };
+    kir_flow::fits(&code) && flags(alloc, code).is_ok()
+}
+
+/// Whether a program has the kernel `k`, of which structured code is then made a hundred times.
+fn is_passed(alloc: Global, program: &Program) -> bool {
     let Some(kernel) = program.find(b"k") else {
         return false;
     };
-    (0..100).all(|_| expand(alloc, program, kernel).is_ok())
+    (0..100).all(|_| is_structured(alloc, program, kernel))
 }
 
 fn make_text(alloc: Global, kind: Kind, bytes: usize) -> Result<Vec<u8>, AllocError> {
@@ -166,6 +199,7 @@ fn make_text(alloc: Global, kind: Kind, bytes: usize) -> Result<Vec<u8>, AllocEr
         Kind::Program => program(alloc, bytes),
         Kind::Functions => functions(alloc, bytes),
         Kind::Calls => calls(alloc, bytes),
+        Kind::Loops => loops(alloc, bytes),
     }
 }
 
@@ -176,8 +210,8 @@ fn is_taken(alloc: Global, kind: Kind, text: &[u8], tokens: &Tokens) -> bool
     match kind {
         Kind::Program => parse(alloc, tokens).is_ok(),
         Kind::Functions => front(alloc, text).is_ok(),
-        Kind::Calls => match front(alloc, text) {
-            Ok(program) => is_expanded(alloc, &program),
+        Kind::Calls | Kind::Loops => match front(alloc, text) {
+            Ok(program) => is_passed(alloc, &program),
             Err(_fault) => false,
         },
         _ => true,

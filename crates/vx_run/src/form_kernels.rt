@@ -1,5 +1,5 @@
-//! Worked kernels, each with structured code made by hand. Every one has the parameter `__global int *a`, and gives each item
-//! its number in the launch in variable 0.
+//! Worked kernels, all but one with structured code made by hand. Every one has the parameter `__global int *a`; the code gives each
+//! item its number in the launch in variable 0.
 use kir::{Kir, Op, Operand};
 use ocl_ast::{Ident, Param, ParamList};
 use ocl_program::{ArrayRef, Builtin, LocalArray};
@@ -8,6 +8,7 @@ use vx_base::{Alu, Elem, ListOf, ParamKind, Pos, Space};
 
 pub(crate) mod collatz;
 pub(crate) mod early_return;
+pub(crate) mod nested;
 pub(crate) mod power;
 pub(crate) mod reduction;
 pub(crate) mod skipped;

@@ -1,11 +1,15 @@
-//! Worked kernels in three forms: as their text has them, with their calls expanded, and as structured code made by hand. Their
-//! work-items are run side by side over plain lists of bytes, and ask for the same, one action after another.
-use crate::form_kernels::{collatz, early_return, power, reduction, skipped, squares};
+//! Worked kernels in five forms: as their text has them, with their calls expanded, in normal form, with flags in place of jumps, and
+//! as structured code made by hand. Their work-items are run side by side over plain lists of bytes, and ask for the same, one
+//! action after another.
+use crate::form_kernels::{collatz, early_return, nested, power, reduction, skipped, squares};
 use item_acts::{Action, Asked, Bound, BoundList, ItemCode, Place, Range};
 use kir::{Kir, KirItems};
-use ocl_inline::expand;
+use kir_flow::flags;
+use ocl_inline::{Flat, expand};
 use ocl_launch::{fits, flat_items_of, items_of};
+use ocl_norm::normalise;
 use std::alloc::{AllocError, Global};
+use std::process::Abort;
 use std::test::Fail;
 use vx_base::{ListOf, Size, get_le, put_le};
 use vx_cc::front;
@@ -92,16 +96,23 @@ fn go<I: ItemCode>(
     Err("too many actions".into())
 }
 
-/// What all items ask for, one after another up to their next barriers, over eight words that count from 1.
-fn actions_of<I: ItemCode>(alloc: Global, items: &I) -> Result<String, Fail> {
+/// Eight words that count from 1, and zeros behind them.
+fn counted() -> Result<[u8; 2048], Fail> {
     let mut memory = [0_u8; 2048];
-    let mut ways = Vec::new(alloc);
     for k in 0..8_u32 {
         let place = Place::Global {
             buffer: 0,
             byte: k * 4,
         };
         store(&mut memory, place, Size::Four, k + 1)?;
+    }
+    Ok(memory)
+}
+
+/// What all items ask for, one after another up to their next barriers.
+fn actions_over<I: ItemCode>(alloc: Global, items: &I, memory: &mut [u8]) -> Result<String, Fail> {
+    let mut ways = Vec::new(alloc);
+    for _ in 0..8 {
         ways.push(Way {
             answers: Vec::new(alloc),
             over: false,
@@ -112,11 +123,32 @@ fn actions_of<I: ItemCode>(alloc: Global, items: &I) -> Result<String, Fail> {
         for number in 0..8_u32 {
             let way = ways.get_mut(number as usize).ok_or("no such item")?;
             if !way.over {
-                go(alloc, items, number, way, &mut memory, &mut log)?;
+                go(alloc, items, number, way, memory, &mut log)?;
             }
         }
     }
     Ok(log)
+}
+
+/// The same over the words that count from 1.
+fn actions_of<I: ItemCode>(alloc: Global, items: &I) -> Result<String, Fail> {
+    let mut memory = counted()?;
+    actions_over(alloc, items, &mut memory)
+}
+
+/// The eight words behind all that the items do.
+fn words_behind<I: ItemCode>(alloc: Global, items: &I) -> Result<[u32; 8], Fail> {
+    let mut memory = counted()?;
+    actions_over(alloc, items, &mut memory)?;
+    let mut words = [0; 8];
+    for k in 0..8_u32 {
+        let place = Place::Global {
+            buffer: 0,
+            byte: k * 4,
+        };
+        words[k as usize] = load(&memory, place, Size::Four)?;
+    }
+    Ok(words)
 }
 
 /// Buffer 0 of eight elements, for the one parameter of each kernel.
@@ -125,8 +157,49 @@ fn bounds(alloc: Global) -> Result<BoundList, AllocError> {
     Ok(ListOf { items })
 }
 
-/// What the items of the kernel `k` of a text ask for: as it stands, and with its calls expanded.
-fn actions_of_text(alloc: Global, text: &str) -> Result<(String, String), Fail> {
+/// The items of structured code.
+fn items_of_code(alloc: Global, code: &Kir) -> Result<KirItems<'_>, AllocError> {
+    Ok(KirItems {
+        code,
+        range: EIGHT,
+        bounds: bounds(alloc)?,
+    })
+}
+
+/// What the items of structured code ask for.
+fn actions_of_code(alloc: Global, code: &Kir) -> Result<String, Fail> {
+    actions_of(alloc, &items_of_code(alloc, code)?)
+}
+
+/// The normal form of a flat kernel.
+fn normal_of(alloc: Global, flat: &Flat) -> Result<Kir, Fail> {
+    if !ocl_norm::fits(flat) {
+        return Err("too many variables".into());
+    }
+    Ok(normalise(alloc, flat)?)
+}
+
+/// Structured code with flags in place of jumps.
+fn flagged_of(alloc: Global, code: Kir) -> Result<Kir, Fail> {
+    if !kir_flow::fits(&code) {
+        return Err("too many flags".into());
+    }
+    Ok(flags(alloc, code)?)
+}
+
+/// What the items of a kernel ask for: as its text has it, with its calls expanded, in normal form, and with flags.
+#[derive(Drop)]
+struct Actions {
+    source: String,
+    flat: String,
+    normal: String,
+    flagged: String,
+    /// The words behind all that is done with flags.
+    words: [u32; 8],
+}
+
+/// What the items of the kernel `k` of a text ask for in each form that is made of it.
+fn actions_of_text(alloc: Global, text: &str) -> Result<Actions, Fail> {
     let source = text.as_bytes();
     if source.len() > 1_048_576 {
         return Err("too long".into());
@@ -137,30 +210,47 @@ fn actions_of_text(alloc: Global, text: &str) -> Result<(String, String), Fail> 
     if !fits(&program, kernel, &bound) {
         return Err("another parameter".into());
     }
-    let one = actions_of(alloc, &items_of(&program, kernel, EIGHT, bound))?;
-    let flat = expand(alloc, &program, kernel)?;
+    let source = actions_of(alloc, &items_of(&program, kernel, EIGHT, bound))?;
+    let tree = expand(alloc, &program, kernel)?;
     let bound = bounds(alloc)?;
     if !fits(&program, kernel, &bound) {
         return Err("another parameter".into());
     }
-    let other = actions_of(alloc, &flat_items_of(&program, kernel, &flat, EIGHT, bound))?;
-    Ok((one, other))
+    let flat = actions_of(alloc, &flat_items_of(&program, kernel, &tree, EIGHT, bound))?;
+    let code = normal_of(alloc, &tree)?;
+    let normal = actions_of_code(alloc, &code)?;
+    let code = flagged_of(alloc, code)?;
+    let flagged = actions_of_code(alloc, &code)?;
+    let words = words_behind(alloc, &items_of_code(alloc, &code)?)?;
+    Ok(Actions {
+        source,
+        flat,
+        normal,
+        flagged,
+        words,
+    })
 }
 
-/// What the items of structured code ask for.
-fn actions_of_code(alloc: Global, code: &Kir) -> Result<String, Fail> {
-    let items = KirItems {
-        code,
-        range: EIGHT,
-        bounds: bounds(alloc)?,
-    };
-    actions_of(alloc, &items)
+/// That all forms of a text ask for the same, and how many actions that are.
+fn compare_forms(
+    rt: &impl Abort,
+    alloc: Global,
+    text: &str,
+    count: usize,
+) -> Result<Actions, Fail> {
+    let actions = actions_of_text(alloc, text)?;
+    let source = actions.source.as_str();
+    assert_eq!(rt; source.lines().count(), count, "{text}");
+    assert_eq!(rt; actions.flat.as_str(), source, "{text}");
+    assert_eq!(rt; actions.normal.as_str(), source, "{text}");
+    assert_eq!(rt; actions.flagged.as_str(), source, "{text}");
+    Ok(actions)
 }
 
 #[test]
-fn three_forms_ask_alike(rt: HostRuntime) -> Result<(), Fail> {
+fn forms_ask_alike(rt: HostRuntime) -> Result<(), Fail> {
     let alloc = rt.alloc();
-    for (text, code, actions) in [
+    for (text, code, count) in [
         (collatz::TEXT, collatz::code(alloc)?, 24),
         (early_return::TEXT, early_return::code(alloc)?, 18),
         (reduction::TEXT, reduction::code(alloc)?, 70),
@@ -168,14 +258,19 @@ fn three_forms_ask_alike(rt: HostRuntime) -> Result<(), Fail> {
         (power::TEXT, power::code(alloc)?, 56),
         (skipped::TEXT, skipped::code(alloc)?, 32),
     ] {
-        let (source, flat) = actions_of_text(alloc, text)?;
-        assert_eq!(rt; source.as_str().lines().count(), actions, "{text}");
-        assert_eq!(rt; flat.as_str(), source.as_str(), "{text}");
+        let actions = compare_forms(&rt, alloc, text, count)?;
         assert_eq!(rt;
             actions_of_code(alloc, &code)?.as_str(),
-            source.as_str(),
+            actions.source.as_str(),
             "{text}"
         );
     }
+    Ok(())
+}
+
+#[test]
+fn nested_jumps_ask_alike(rt: HostRuntime) -> Result<(), Fail> {
+    let actions = compare_forms(&rt, rt.alloc(), nested::TEXT, nested::COUNT)?;
+    assert_eq!(rt; actions.words, nested::WORDS);
     Ok(())
 }

@@ -1,0 +1,13 @@
+//! Laws of typed functions and of their flat kernels. The functions themselves do nothing.
+ghost use Rattle.flat_typing.specs.Laws.{FlatKernelsAreTyped, FunctionsAreTyped};
+
+/// In a function within the limits of a kernel each load and store is by the type of its array's elements, each store is to an array that
+/// accepts it, each call is of a helper with arguments of its parameters' kinds, and each built-in function has its arguments.
+pub fn functions_are_typed()
+    ensures { FunctionsAreTyped }
+{}
+
+/// A kernel with its calls expanded has all this of its own arrays, and its variables are numbered below their count.
+pub fn flat_kernels_are_typed()
+    ensures { FlatKernelsAreTyped }
+{}

@@ -1,0 +1,33 @@
+pub mod WordLaws
+pub mod Relations
+pub mod OperatorLaws
+pub mod ValuesAlong
+pub mod ChoicesAlong
+pub mod AccessesAlong
+pub mod BuiltinsAlong
+pub mod Reading
+pub mod Building
+pub mod Counting
+pub mod InFront
+pub mod DepthKept
+pub mod Meetings
+pub mod SitesKept
+pub mod ChecksKept
+pub mod RoomKept
+pub mod PartWords
+pub mod FewNested
+pub mod WordsKept
+pub mod BelowKept
+pub mod Skips
+pub mod StatementsAlong
+pub mod ElementsAlong
+pub mod LoopsAlong
+pub mod CallsAlong
+pub mod AccessLaws
+pub mod ProperParts
+pub mod KernelsAlong
+pub mod NormalAlike
+pub mod NormalKeeps
+pub mod NormalMeasures
+mod WorkedNormal
+mod WorkedMeasures
