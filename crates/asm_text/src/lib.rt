@@ -17,6 +17,3 @@ pub use hexadecimal::{HexFault, hex_text, hex_words, push_hex_line};
 pub use lines::cut_line;
 pub use mnemonics::{Field, Form, Mnemonic, Operands, Part};
 pub use statements::{AsmFault, Line, Number, Span, Statement};
-
-#[cfg(test)]
-mod tests;

@@ -33,19 +33,3 @@ pub fn decimal_number(text: &[u8]) -> Option<u32>
         Err(_) => None,
     }
 }
-
-#[cfg(test)]
-mod tests {
-    use super::*;
-    use std::test::*;
-
-    #[test]
-    fn reads_decimal_numbers(rt: HostRuntime) {
-        assert_eq!(rt; decimal_number(b"0"), Some(0));
-        assert_eq!(rt; decimal_number(b"4294967295"), Some(4_294_967_295));
-        assert_eq!(rt; decimal_number(b"4294967296"), None);
-        assert_eq!(rt; decimal_number(b"08"), None);
-        assert_eq!(rt; decimal_number(b"+1"), None);
-        assert_eq!(rt; decimal_number(b""), None);
-    }
-}

@@ -304,6 +304,3 @@ pub fn kernel_of(alloc: Global, function: &TypedFunction) -> Result<Option<Kerne
         Err(Unread::Memory) => Err(Memory),
     }
 }
-
-#[cfg(test)]
-mod tests;

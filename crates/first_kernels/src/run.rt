@@ -50,6 +50,3 @@ fn idle_lanes(alloc: Global, count: u32) -> Result<Vec<Lane>, AllocError>
     }
     Ok(lanes)
 }
-
-#[cfg(test)]
-mod tests;

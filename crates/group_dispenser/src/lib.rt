@@ -12,9 +12,6 @@ pub mod claimer;
 pub mod crew;
 pub mod dispenser;
 pub mod rule;
-#[cfg(test)]
-mod tests;
-
 pub use claimer::{Claimer, ClaimerList};
 pub use crew::{claimers, close, gather};
 pub use dispenser::Dispenser;

@@ -46,7 +46,7 @@ cases_list (x ∷ xs) (y ∷ ys) =
     ]
 
 -- and so are two points
-cases_point : (p q : Point) → (p ≡ q) ⊎ (p ≢ q)
+pub cases_point : (p q : Point) → (p ≡ q) ⊎ (p ≢ q)
 cases_point p q =
     elim (cases_eq p.site q.site) [
       | inl e ↦

@@ -46,7 +46,7 @@ fields_swap : (m : Place → ℕ) (p : Place) (n v : ℕ) (q : Place) (k w : ℕ
 fields_swap m p n v q k w never = fun_ext (λ b. conds_swap (covers p n b) (covers q k b) _ _ (m b) (never b))
 
 -- a field has each of its bytes
-covers_further : (p : Place) (n k : ℕ) → k < n → covers p n (further p k) ≡ true
+pub covers_further : (p : Place) (n k : ℕ) → k < n → covers p n (further p k) ≡ true
 covers_further (Global buffer byte) n k below =
     and_from _ _ (eq-eqb buffer buffer refl) (and_from _ _ (le-leb byte (byte + k) (omega arith)) (lt-ltb (byte + k) (byte + n) (omega arith)))
 covers_further (Local group array byte) n k below =

@@ -16,8 +16,6 @@ pub mod laws;
 pub mod passing;
 pub mod races;
 pub mod tame_laws;
-#[cfg(test)]
-mod tests;
 pub mod world;
 
 pub use acts::{Action, Asked, Bound, BoundList, Place, Point, Range, TurnList};

@@ -18,8 +18,6 @@ pub mod runs;
 pub mod states;
 pub mod steps;
 pub mod tasks;
-#[cfg(test)]
-mod tests;
 pub mod turns;
 
 pub use items::{KirItems, kir_next};

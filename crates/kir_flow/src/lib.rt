@@ -11,7 +11,4 @@ pub mod laws;
 pub mod leaving;
 pub mod scopes;
 pub mod singles;
-#[cfg(test)]
-mod tests;
-
 pub use kernels::{fits, flags};

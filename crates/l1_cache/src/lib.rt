@@ -10,8 +10,5 @@
 pub mod cache;
 pub mod evictor;
 mod field;
-#[cfg(test)]
-mod tests;
-
 pub use cache::Cache;
 pub use evictor::{EvictOldest, Evictor};

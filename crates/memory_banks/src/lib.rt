@@ -24,9 +24,6 @@ pub mod plain_bus;
 pub mod port;
 pub mod port_bus;
 pub mod rule;
-#[cfg(test)]
-mod tests;
-
 pub use banks::{Banks, bank_of};
 pub use bus::Bus;
 pub use crew::{PortList, close, gather, ports, renew};

@@ -161,6 +161,3 @@ pub fn block(items: StmtList) -> Stmt
 {
     Stmt::Block(items)
 }
-
-#[cfg(test)]
-mod tests;

@@ -35,6 +35,3 @@ pub fn check(alloc: Global, unit: Unit) -> Result<Program, TypeFault>
     let functions = all_placed(alloc, functions, totals.as_slice())?;
     Ok(Program { functions, totals })
 }
-
-#[cfg(test)]
-mod tests;

@@ -9,8 +9,6 @@ pub mod expansion;
 pub mod kernels;
 pub mod laws;
 pub mod nodes;
-#[cfg(test)]
-mod tests;
 pub mod trees;
 
 pub use kernels::expand;

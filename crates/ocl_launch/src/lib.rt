@@ -7,6 +7,3 @@
 pub mod launches;
 
 pub use launches::{fits, flat_items_of, items_of};
-
-#[cfg(test)]
-mod tests;

@@ -4,9 +4,6 @@ ghost use Rattle.ocl_lex.specs.Lines as spec;
 ghost use Rattle.ocl_lex.specs.Pieces.{first_place};
 ghost use Rattle.ocl_lex.specs.Spans.{StandIn};
 
-#[cfg(test)]
-mod tests;
-
 use crate::context::Context;
 use crate::faults::LexFault;
 use crate::output::Output;

@@ -106,6 +106,3 @@ pub fn all_totals(alloc: Global, functions: &[TypedFunction]) -> Result<Vec<Tota
     }
     Ok(totals)
 }
-
-#[cfg(test)]
-mod tests;

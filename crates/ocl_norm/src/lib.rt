@@ -16,7 +16,4 @@ pub mod parts;
 pub mod rooms;
 pub mod standings;
 pub mod statements;
-#[cfg(test)]
-mod tests;
-
 pub use kernels::{fits, normalise};

@@ -188,6 +188,3 @@ pub fn block(items: Vec<TypedStmt>) -> TypedStmt
 {
     TypedStmt::Block(items)
 }
-
-#[cfg(test)]
-mod tests;

@@ -64,6 +64,3 @@ fn not_less(unsigned: bool, a: u32, b: u32) -> u32
 {
     1u32.saturating_sub(less(unsigned, a, b))
 }
-
-#[cfg(test)]
-mod tests;

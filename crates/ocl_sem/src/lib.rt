@@ -11,8 +11,6 @@ pub mod laws;
 pub mod placed;
 pub mod scopes;
 pub mod statements;
-#[cfg(test)]
-mod tests;
 pub mod unfold;
 
 pub use items::{Item, Items};

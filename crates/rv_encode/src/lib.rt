@@ -13,6 +13,3 @@ pub mod laws;
 
 pub use decoding::decode;
 pub use encoding::encode;
-
-#[cfg(test)]
-mod tests;

@@ -95,6 +95,3 @@ fn fits(offset: u32, size: Size) -> bool
 {
     offset <= BYTES - size.bytes()
 }
-
-#[cfg(test)]
-mod tests;

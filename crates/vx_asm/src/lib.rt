@@ -17,6 +17,3 @@ mod listing;
 mod parts;
 
 pub use assembly::assemble;
-
-#[cfg(test)]
-mod tests;

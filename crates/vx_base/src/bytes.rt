@@ -41,23 +41,3 @@ pub fn put_le(bytes: &mut [u8], at: usize, size: Size, value: u32)
         Size::Four => bytes[at..at + 4].copy_from_slice(&low_first),
     }
 }
-
-#[cfg(test)]
-mod tests {
-    use super::*;
-
-    #[test]
-    fn reads_and_writes_fields(rt: HostRuntime) {
-        let mut bytes = [0x11, 0x22, 0x33, 0x44, 0x55];
-        assert_eq!(rt; get_le(&bytes, 0, Size::One), 0x11);
-        assert_eq!(rt; get_le(&bytes, 1, Size::Two), 0x3322);
-        assert_eq!(rt; get_le(&bytes, 1, Size::Four), 0x5544_3322);
-        put_le(&mut bytes, 3, Size::One, 0xaabb_ccdd);
-        assert_eq!(rt; bytes, [0x11, 0x22, 0x33, 0xdd, 0x55]);
-        put_le(&mut bytes, 1, Size::Two, 0x0102_0304);
-        assert_eq!(rt; bytes, [0x11, 0x04, 0x03, 0xdd, 0x55]);
-        put_le(&mut bytes, 1, Size::Four, 0x0102_0304);
-        assert_eq!(rt; bytes, [0x11, 0x04, 0x03, 0x02, 0x01]);
-        assert_eq!(rt; Size::Two.bytes(), 2);
-    }
-}

@@ -25,18 +25,3 @@ pub fn least(mask: u32) -> Option<u32>
         Some(mask.trailing_zeros())
     }
 }
-
-#[cfg(test)]
-mod tests {
-    use super::*;
-
-    #[test]
-    fn masks_lanes_and_finds_the_least(rt: HostRuntime) {
-        assert_eq!(rt; lanes_mask(1), 1);
-        assert_eq!(rt; lanes_mask(4), 0b1111);
-        assert_eq!(rt; lanes_mask(32), 0xffff_ffff);
-        assert_eq!(rt; least(0), None);
-        assert_eq!(rt; least(0b1100), Some(2));
-        assert_eq!(rt; least(0x8000_0000), Some(31));
-    }
-}

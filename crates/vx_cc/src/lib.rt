@@ -10,8 +10,3 @@ pub mod sources;
 
 pub use faults::{SourceFault, SourceKind};
 pub use sources::front;
-
-#[cfg(test)]
-mod parsing_tests;
-#[cfg(test)]
-mod tests;

@@ -20,9 +20,6 @@ mod ends;
 pub mod job;
 mod memory;
 mod place;
-#[cfg(test)]
-mod tests;
-
 pub use core_run::Core;
 pub use counts::CoreCounts;
 pub use end::GroupEnd;

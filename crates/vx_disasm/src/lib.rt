@@ -6,6 +6,3 @@
 pub mod texts;
 
 pub use texts::disassemble;
-
-#[cfg(test)]
-mod tests;

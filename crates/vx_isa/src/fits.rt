@@ -130,26 +130,3 @@ fn is_csr(csr: u32) -> bool
 {
     matches!(csr, 0xcc0 | 0xcc1 | 0xcc2 | 0xcc4)
 }
-
-#[cfg(test)]
-mod tests {
-    use super::*;
-    use crate::laws::words_tell_rows;
-    use std::test::Fail;
-
-    #[test]
-    fn tells_operands_in_range(rt: HostRuntime) -> Result<(), Fail> {
-        let (rs1, rs2) = (31, 0);
-        for (place, fits) in [
-            (0xffff_f000, true),
-            (0xffff_effe, false),
-            (0xffe, true),
-            (0x1000, false),
-            (7, false),
-        ] {
-            assert_eq!(rt; Instr::Bne { rs1, rs2, place }.fits(), fits);
-        }
-        words_tell_rows();
-        Ok(())
-    }
-}

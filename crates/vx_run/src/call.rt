@@ -58,6 +58,3 @@ pub fn vx<R: Threads + Sync, F: Files, O: Out, G: Gate + Sync>(
         Err(Stop::Memory) => report(Cause::Memory),
     }
 }
-
-#[cfg(test)]
-mod tests;

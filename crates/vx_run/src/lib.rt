@@ -7,10 +7,6 @@
 pub mod answer;
 pub mod call;
 pub mod deliver;
-#[cfg(test)]
-mod form_kernels;
-#[cfg(test)]
-mod form_tests;
 pub mod launch;
 pub mod layout;
 pub mod lines;

@@ -106,6 +106,3 @@ pub fn read_words(alloc: Global, words: &[String]) -> Result<Command, UsageFault
 {
     command_of(alloc, words)
 }
-
-#[cfg(test)]
-mod tests;

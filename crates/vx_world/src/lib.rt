@@ -23,6 +23,3 @@ pub use mem_out::MemOut;
 pub use reading::{Entry, EntryList, Files, ReadFault};
 pub use stream_out::StreamOut;
 pub use writing::{Out, OutFault};
-
-#[cfg(test)]
-mod tests;

@@ -16,6 +16,3 @@ pub use oldest_first::OldestFirst;
 pub use picker::Picker;
 pub use round_robin::RoundRobin;
 pub use seeded::SeededPick;
-
-#[cfg(test)]
-mod tests;

@@ -267,6 +267,3 @@ impl Warp {
         }
     }
 }
-
-#[cfg(test)]
-mod tests;
