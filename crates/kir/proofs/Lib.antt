@@ -2,6 +2,5 @@ mod WorkedCode
 mod WorkedMeasures
 pub mod Rows
 pub mod Putting
-pub mod TurnLaws
 pub mod RunLaws
 pub mod JumpLaws

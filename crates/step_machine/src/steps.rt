@@ -36,11 +36,7 @@ pub trait SmallSteps {
     ghost turns_of: { Standing → List ℕ };
 
     /// One small step: what it found, and the state behind it. No number of turns is the last of its type.
-    fn step(
-        &self,
-        alloc: Global,
-        state: &mut Self::State,
-    ) -> Result<Found<Self::Kept>, AllocError>
+    fn step(&self, alloc: Global, state: &mut Self::State) -> Result<Found<Self::Kept>, AllocError>
         requires below { EachBelow (2 ^ 64 - 1) (turns_of (state_of state.now)) }
         ensures { IfOk result (λ found. step_of self.now (state_of state.old) ≡ shown told found (state_of state.new)) };
 
