@@ -6,11 +6,13 @@
 #![tactic(auto)]
 
 pub mod arrays;
+pub mod params;
 pub mod settings;
 pub mod starts;
 pub mod variables;
 
 pub use arrays::{ItemArray, low_bytes, size_of_elem};
+pub use params::copied_params;
 pub use settings::Setting;
 pub use starts::bound_values;
 pub use variables::Variables;
