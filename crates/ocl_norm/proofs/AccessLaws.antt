@@ -16,7 +16,7 @@ use Rattle.ocl_ast.specs.declared.units.Param.{Param}
 use Rattle.ocl_program.specs.declared.exprs.ArrayRef.{ArrayRef}
 use Rattle.ocl_program.specs.declared.exprs.ArrayRef.TheVariants.{Parameter, Declared}
 use Rattle.ocl_program.specs.declared.functions.LocalArray.{LocalArray}
-use Rattle.ocl_norm.specs.Proper.{KindHas, ParamHas, DeclaredHas, HasElem, KindWritten, ParamWritten, IsWritten}
+use Rattle.ocl_inline.specs.Proper.{KindHas, ParamHas, DeclaredHas, HasElem, KindWritten, ParamWritten, IsWritten}
 use Rattle.ocl_norm.proofs.AccessesAlong.{Accesses, Changes}
 
 -- ---- the type of the elements

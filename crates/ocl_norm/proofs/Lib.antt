@@ -10,7 +10,6 @@ pub mod Building
 pub mod Counting
 pub mod InFront
 pub mod DepthKept
-pub mod Meetings
 pub mod SitesKept
 pub mod ChecksKept
 pub mod RoomKept

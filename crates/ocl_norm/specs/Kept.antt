@@ -10,7 +10,7 @@ use Rattle.ocl_inline.specs.FlatNumbers.{AreDifferent, flat_sites}
 use Rattle.ocl_inline.specs.Trees.{FlatKernel}
 use Rattle.ocl_norm.specs.Dimensions.{dimensions}
 use Rattle.ocl_norm.specs.Normal.{normal_kernel}
-use Rattle.ocl_norm.specs.Proper.{IsProperKernel}
+use Rattle.ocl_inline.specs.Proper.{IsProperKernel}
 
 -- how often a barrier stands in a list
 abbrev pub times : ℕ → List ℕ → ℕ

@@ -3,7 +3,6 @@ pub mod Operators
 pub mod Occurrences
 pub mod Rooms
 pub mod Normal
-pub mod Proper
 pub mod Views
 pub mod Sizes
 pub mod Arguments
