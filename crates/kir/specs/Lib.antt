@@ -5,6 +5,8 @@ pub mod Machine
 pub mod Views
 pub mod Launches
 pub mod Measures
+pub mod Loops
+pub mod Typing
 pub mod Weights
 pub mod FlaggedWords
 pub mod Numbered
