@@ -5,3 +5,4 @@ pub mod Putting
 pub mod TurnLaws
 pub mod RunLaws
 pub mod JumpLaws
+pub mod LoopLaws
