@@ -226,8 +226,7 @@ mutual
       ((stmt_typed ps ls n one has.1 result NoOps tt, stmt_typed ps ls n other has.2 result NoOps tt), typed)
   stmt_typed ps ls n (WhileFlat test body) has result c typed = ((value_typed ps ls n test has.0 (suc result) NoOps tt, stmt_typed ps ls n body has.1 result NoOps tt, tt), typed)
   stmt_typed ps ls n (DoFlat body test) has result c typed =
-      let x : Ops = settled (standing test) (suc result) NoOps in
-      (
+      let x : Ops = settled (standing test) (suc result) NoOps in (
         tt,
         (
           (tt, stmt_typed ps ls n body has.0 result NoOps tt, value_typed ps ls n test has.1 (suc result) x (settled_typed ps ls (standing test) (suc result) NoOps tt)),
