@@ -17,6 +17,7 @@ pub mod PartWords
 pub mod FewNested
 pub mod WordsKept
 pub mod BelowKept
+pub mod TypesKept
 pub mod Skips
 pub mod StatementsAlong
 pub mod ElementsAlong

@@ -6,7 +6,6 @@ pub mod Normal
 pub mod Views
 pub mod Sizes
 pub mod Arguments
-pub mod Dimensions
 pub mod Laws
 pub mod Kept
 pub mod Counting

@@ -16,4 +16,5 @@ pub mod parts;
 pub mod rooms;
 pub mod standings;
 pub mod statements;
+
 pub use kernels::{fits, normalise};
