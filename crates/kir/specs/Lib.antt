@@ -6,6 +6,8 @@ pub mod Views
 pub mod Rising
 pub mod Launches
 pub mod Measures
+pub mod Loops
+pub mod Typing
 pub mod Weights
 pub mod FlaggedWords
 pub mod Numbered

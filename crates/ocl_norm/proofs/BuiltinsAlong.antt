@@ -23,7 +23,8 @@ use Rattle.ocl_inline.specs.declared.trees.Binding.{Binding}
 use Rattle.ocl_norm.specs.Normal.{pair_ops, calls, value_ops}
 use Rattle.ocl_norm.specs.Operators.{two_ops, greatest_ops, least_ops, magnitude_ops}
 use Rattle.kir.specs.Numbered.{GivesWords}
-use Rattle.ocl_norm.specs.Proper.{AreValues, arity}
+use Rattle.ocl_inline.specs.Proper.{AreValues}
+use Rattle.ocl_types.specs.Exprs.{arity}
 use Rattle.ocl_norm.specs.Standings.{Made, standing, operand_at, held_at, above}
 use Rattle.ocl_norm.proofs.OperatorLaws.{once, greatest_holds, least_holds, magnitude_holds}
 use Rattle.ocl_norm.proofs.Relations.{flat_state, Alike, kept_put, alike_self, alike_on, alike_kept, under_more, learns}

@@ -14,7 +14,7 @@ use Rattle.ocl_inline.specs.declared.trees.Binding.TheVariants.{Variable as ToVa
 use Rattle.ocl_inline.specs.FlatTasks.{FlatTask, bound_to, args_tasks, stmts_tasks}
 use Rattle.ocl_inline.specs.Trees.{FlatExpr, CallFlat, FlatArgs, NoFlatArgs, NumberArg, BlockFlat, FlatStmts}
 use Rattle.ocl_norm.specs.Normal.{args_ops, bound_ops, stmts_ops}
-use Rattle.ocl_norm.specs.Proper.{IsBound}
+use Rattle.ocl_inline.specs.Proper.{IsBound}
 use Rattle.ocl_norm.specs.Standings.{standing, operand_at}
 use Rattle.ocl_norm.proofs.ChoicesAlong.{ValueGoes}
 use Rattle.ocl_norm.proofs.Relations.{flat_state, Along, Alike, alike_self, alike_on, alike_less, alike_put, alike_kept, kept_put, sets, fits}

@@ -5,7 +5,7 @@ ghost use Rattle.ocl_inline.specs.Shapes.{kernel_of};
 ghost use Rattle.ocl_norm.specs.Kept.{KeepsMeasures};
 ghost use Rattle.ocl_norm.specs.Laws.{DoesTheSame};
 ghost use Rattle.ocl_norm.specs.Normal.{normal_kernel};
-ghost use Rattle.ocl_norm.specs.Proper.{IsTypedKernel, NumbersAreWords};
+ghost use Rattle.ocl_inline.specs.Proper.{IsTypedKernel, NumbersAreWords};
 
 use crate::rooms::stmts_room;
 use crate::statements::stmts_list;

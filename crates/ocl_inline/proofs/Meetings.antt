@@ -25,7 +25,7 @@ met_counts n (k ∷ ks) =
 
 -- ---- numbers that differ are each met once at most
 
-once : (k : ℕ) → one k k ≡ 1
+pub once : (k : ℕ) → one k k ≡ 1
 once k = ap (λ (b : Bool). if b then 1 else 0) (eq-eqb k k refl)
 
 all_other : (k : ℕ) (ks : List ℕ) → met k ks ≤ 0 → AllByRecursion (λ n. (k == n) ≡ false) ks

@@ -1,61 +1,18 @@
--- Of which flat kernels the normal form is asked: what the flat kernel of a program has, and not every tree of its kind.
-use Rattle.std.specs.Prelude.{◌≡◌, ℕ, zero, suc, ◌<◌, ◌≤◌, ◌^◌, Bool, true, false, List, count_by, slice_get, Option, None, Some}
+-- What the flat kernel of a program has, and not every tree of its kind: it is typed, and its numbers are words.
+use Rattle.std.specs.Prelude.{ℕ, zero, suc, ◌<◌, ◌≤◌, ◌^◌, List, count_by}
 use Rattle.vx_base.specs.declared.types.Elem.{Elem}
 use Rattle.vx_base.specs.declared.types.ParamKind.{ParamKind}
 use Rattle.vx_base.specs.declared.types.ParamKind.TheVariants.{Scalar, Pointer}
 use Rattle.ocl_ast.specs.declared.units.Param.{Param}
-use Rattle.ocl_program.specs.declared.exprs.ArrayRef.{ArrayRef}
-use Rattle.ocl_program.specs.declared.exprs.ArrayRef.TheVariants.{Parameter, Declared}
-use Rattle.ocl_program.specs.declared.exprs.Builtin.{Builtin}
-use Rattle.ocl_program.specs.declared.exprs.Builtin.TheVariants.{WorkDim, Min, Max, Clamp, MulHi}
 use Rattle.ocl_program.specs.declared.functions.LocalArray.{LocalArray}
-use Rattle.item_settings.specs.Settings.{is_writable}
+use Rattle.ocl_sem.specs.Source.{is_scalar}
+use Rattle.ocl_types.specs.Exprs.{arity}
+pub use Rattle.kir.specs.Typing.{KindHas, ParamHas, DeclaredHas, HasElem, KindWritten, ParamWritten, IsWritten}
 use Rattle.ocl_inline.specs.declared.trees.Binding.{Binding}
 use Rattle.ocl_inline.specs.declared.trees.Binding.TheVariants.{Variable as ToVariable, Dropped}
 use Rattle.ocl_inline.specs.Trees.{FlatValue, NoFlat, SomeFlat, FlatExpr, NumberFlat, VariableFlat, UnaryFlat, BinaryFlat, BothFlat, EitherFlat, ChooseFlat, CastFlat, LoadFlat, CallFlat, LostFlat, BuiltinFlat, ParenFlat, FlatArgs, NoFlatArgs, NumberArg, NamedArg, FlatStmt, DeclareFlat, LocalArrayFlat, SetVariableFlat, SetElementFlat, CallStmtFlat, IfFlat, IfElseFlat, WhileFlat, DoFlat, ForFlat, ReturnFlat, BlockFlat, FlatStmts, NoFlats, AndFlat, FlatKernel}
 
--- ---- arrays
-
--- elements of the array that is named so have this type
-abbrev pub KindHas : ParamKind → Elem → Type 0
-KindHas (Scalar elem') elem = Unit {0}
-KindHas (Pointer space elem' readonly) elem = elem' ≡ elem
-
-abbrev pub ParamHas : Option Param → Elem → Type 0
-ParamHas None elem = Unit {0}
-ParamHas (Some param) elem = KindHas param.kind elem
-
-abbrev pub DeclaredHas : Option LocalArray → Elem → Type 0
-DeclaredHas None elem = Unit {0}
-DeclaredHas (Some array) elem = array.elem ≡ elem
-
-abbrev pub HasElem : List Param → List LocalArray → ArrayRef → Elem → Type 0
-HasElem params arrays (Parameter k) elem = ParamHas (slice_get params k) elem
-HasElem params arrays (Declared k) elem = DeclaredHas (slice_get arrays k) elem
-
--- and may be changed
-abbrev pub KindWritten : ParamKind → Type 0
-KindWritten (Scalar elem) = Unit {0}
-KindWritten (Pointer space elem readonly) = is_writable space readonly ≡ true
-
-abbrev pub ParamWritten : Option Param → Type 0
-ParamWritten None = Unit {0}
-ParamWritten (Some param) = KindWritten param.kind
-
-abbrev pub IsWritten : List Param → ArrayRef → Type 0
-IsWritten params (Parameter k) = ParamWritten (slice_get params k)
-IsWritten params (Declared k) = Unit {0}
-
 -- ---- arguments
-
--- how many arguments a built-in function has
-abbrev pub arity : Builtin → ℕ
-arity WorkDim = 0
-arity Min = 2
-arity Max = 2
-arity MulHi = 2
-arity Clamp = 3
-arity other = 1
 
 -- so many arguments, all of them values
 abbrev pub AreValues : ℕ → FlatArgs → Type 0
@@ -166,13 +123,6 @@ abbrev mutual
   TypedStmts params arrays count (AndFlat s ss) = TypedStmt params arrays count s × TypedStmts params arrays count ss
 
 -- ---- the whole
-
-abbrev pub is_scalar_kind : ParamKind → Bool
-is_scalar_kind (Scalar elem) = true
-is_scalar_kind (Pointer space elem readonly) = false
-
-abbrev pub is_scalar : Param → Bool
-is_scalar param = is_scalar_kind param.kind
 
 abbrev pub NumbersAreWords : FlatKernel → Type 0
 NumbersAreWords flat = StmtsWords flat.body
