@@ -1,6 +1,5 @@
 -- The functions of a program are typed.
 use Rattle.std.proofs.Common.{◌≡◌, refl, sym, ap, ◌∙◌, subst, ℕ, ◌+◌, ◌<◌, ◌≤◌, nat_lt, Bool, true, false, if◌then◌else◌, List, [], ◌∷◌, ◌++◌, map, length, slice_get, Option, None, Some, option_map, Ok, arith}
-use Rattle.std.proofs.lemmas.Bool.{ltb-false}
 use Rattle.std.proofs.lemmas.List.{length-map}
 use Rattle.std.proofs.lemmas.List.FromFn.{length-range_with_len}
 use Rattle.std.proofs.lemmas.Option.{slice_get-map}
@@ -9,13 +8,13 @@ use Rattle.ocl_program.specs.declared.functions.CallSite.{CallSite}
 use Rattle.ocl_program.specs.Measures.{at_call, callees, measured, own_nodes}
 use Rattle.ocl_program.specs.Nodes.{FunctionNode}
 use Rattle.ocl_sem.specs.Source.{callee_of}
-use Rattle.ocl_types.specs.declared.faults.TypeFault.{TypeFault}
 use Rattle.ocl_types.specs.Stmts.{Place, typed_stmts}
-use Rattle.ocl_types.specs.Functions.{IsProgram, at_start, bare_call, bodies_of, each_from, made_of, most_params, names_from, params_fault, placed, recursion_of, typed_function, typed_functions, with_params, within_limits}
+use Rattle.ocl_types.specs.Functions.{IsProgram, at_start, bare_call, made_of, placed, typed_function, typed_functions, with_params}
 use Rattle.program_laws.specs.Formed.{IsFormed, IsSmall, stmts_arrays, stmts_calls}
-use Rattle.program_laws.proofs.Bodies.{Based, Each, Made, Typing, based, each_behind}
+use Rattle.program_laws.proofs.Bodies.{Based, Made, Typing, based, program_made}
 use Rattle.program_laws.proofs.Forming.{small_formed}
-use Rattle.program_laws.proofs.NoRecursion.{each_passes, placed_callees}
+use Rattle.program_laws.proofs.Limits.{params_few}
+use Rattle.program_laws.proofs.NoRecursion.{placed_callees}
 use Rattle.program_laws.proofs.Passing.{passing, ok_is, answered}
 use Rattle.program_laws.proofs.Pieces.{most}
 use Rattle.program_laws.proofs.Settling.{measures_settle}
@@ -28,12 +27,6 @@ use Rattle.flat_typing.proofs.StmtGains.{StmtsGain, stmts_gain}
 -- ---- the functions of a file in order
 
 -- a typed function takes what its tree says
-function_typing : (functions : List FunctionTree) (tree : FunctionTree) (f : FunctionNode) → typed_function functions tree ≡ Ok f → Typing functions f
-function_typing functions tree f h =
-    let st = passing (with_params 0 at_start tree.params) h in
-    let d = passing (typed_stmts (record { functions = functions; gives = tree.gives; in_loop = false; outermost = tree.kernel }) [] st.value tree.body) st.rest in
-    record { tree = tree; start = st.value; params = st.first; made = d.value; body = d.first; is = ok_is d.rest }
-
 function_head : (functions : List FunctionTree) (tree : FunctionTree) (f : FunctionNode) → typed_function functions tree ≡ Ok f → head_of f ≡ tree_head tree
 function_head functions tree f h =
     let st = passing (with_params 0 at_start tree.params) h in
@@ -44,66 +37,19 @@ heads_behind : (before : List FunctionNode) (f : FunctionNode) (rest : List Head
 heads_behind [] f rest = refl
 heads_behind (g ∷ before) f rest = ap (λ (hs : List Head). head_of g ∷ hs) (heads_behind before f rest)
 
--- typed functions, each with its head
-record AreTyped (functions : List FunctionTree) (before : List FunctionNode) (more : List FunctionTree) (all : List FunctionNode) : Type 0 where
-  typings : Each (Typing functions) all
-  heads : map head_of all ≡ map head_of before ++ map tree_head more
-
 heads_end : (before : List FunctionNode) → map head_of before ≡ map head_of before ++ []
 heads_end [] = refl
 heads_end (f ∷ before) = ap (λ (hs : List Head). head_of f ∷ hs) (heads_end before)
 
-functions_typed : (functions : List FunctionTree) (before : List FunctionNode) (more : List FunctionTree) (all : List FunctionNode) → Each (Typing functions) before
-    → typed_functions functions before more ≡ Ok all → AreTyped functions before more all
-functions_typed functions before [] all each h = answered (AreTyped functions before []) h (record { typings = each; heads = heads_end before })
-functions_typed functions before (f ∷ more) all each h =
+functions_headed : (functions : List FunctionTree) (before : List FunctionNode) (more : List FunctionTree) (all : List FunctionNode) → typed_functions functions before more ≡ Ok all
+    → map head_of all ≡ map head_of before ++ map tree_head more
+functions_headed functions before [] all h = answered (λ (x : List FunctionNode). map head_of x ≡ map head_of before ++ []) h (heads_end before)
+functions_headed functions before (f ∷ more) all h =
     let node = passing (typed_function functions f) h in
-    let rest : AreTyped functions (before ++ node.value ∷ []) more all =
-    functions_typed functions (before ++ node.value ∷ []) more all (each_behind (Typing functions) before node.value each (function_typing functions f node.value node.first)) node.rest in
-    record {
-      typings = rest.typings;
-      heads = rest.heads ∙ heads_behind before node.value (map tree_head more)
-          ∙ ap (λ (x : Head). map head_of before ++ (x ∷ map tree_head more)) (function_head functions f node.value node.first);
-    }
-
--- the functions of a program as they are typed, and in the order of the file
-record Headed (program : List FunctionNode) : Type 0 where
-  made : Made program
-  heads : map head_of made.base ≡ map tree_head made.functions
-
-program_headed : (program : List FunctionNode) → IsProgram program → Headed program
-program_headed program p =
-    let bodies = passing (bodies_of p.functions) p.typed in
-    let within = passing (within_limits bodies.value) bodies.rest in
-    let names = passing (names_from [] p.functions) bodies.first in
-    let all : AreTyped p.functions [] p.functions bodies.value = functions_typed p.functions [] p.functions bodies.value tt names.rest in
-    record {
-      made = record {
-        functions = p.functions;
-        base = bodies.value;
-        typings = all.typings;
-        counted = sym (length-map bodies.value head_of) ∙ ap (λ (hs : List Head). length hs) all.heads ∙ length-map p.functions tree_head;
-        limits = within.first;
-        is = ok_is within.rest;
-      };
-      heads = all.heads;
-    }
+    functions_headed functions (before ++ node.value ∷ []) more all node.rest ∙ heads_behind before node.value (map tree_head more)
+    ∙ ap (λ (x : Head). map head_of before ++ (x ∷ map tree_head more)) (function_head functions f node.value node.first)
 
 -- ---- limits
-
-few_of : (n : ℕ) (fault : TypeFault) → (if nat_lt most_params n then Some fault else None) ≡ None → n ≤ 16
-few_of n fault h = ltb-false 16 n (untested (nat_lt most_params n) h)
-  where
-    untested : (test : Bool) → (if test then Some fault else None) ≡ None → test ≡ false
-    untested true e = cc
-    untested false e = refl
-
--- a function has few parameters
-params_few : (base : List FunctionNode) (k : ℕ) (f : FunctionNode) → within_limits base ≡ Ok tt → slice_get base k ≡ Some f → length f.params ≤ 16
-params_few base k f h at =
-    let recursion = passing (each_from (recursion_of base) 0 base) h in
-    let params = passing (each_from params_fault 0 base) recursion.rest in
-    few_of (length f.params) _ (each_passes params_fault 0 base k f params.first at)
 
 -- a small function has few calls and arrays
 record IsFew (f : FunctionNode) : Type 0 where
@@ -163,10 +109,11 @@ made_typed program made heads node typing few_params few =
 
 -- ---- the law
 
-heads_at : (program : List FunctionNode) (headed : Headed program) (k : ℕ) → option_map head_of (slice_get program k) ≡ head_at headed.made.functions k
-heads_at program headed k =
-    let made = headed.made in
-    let same : map head_of program ≡ map tree_head made.functions = ap (map head_of) (sym made.is) ∙ placed_heads made.base made.base ∙ headed.heads in
+-- each function has the head of its tree
+heads_at : (program : List FunctionNode) (made : Made program) (k : ℕ) → option_map head_of (slice_get program k) ≡ head_at made.functions k
+heads_at program made k =
+    let heads : map head_of made.base ≡ [] ++ map tree_head made.functions = functions_headed made.functions [] made.functions made.base made.typed in
+    let same : map head_of program ≡ map tree_head made.functions = ap (map head_of) (sym made.is) ∙ placed_heads made.base made.base ∙ heads in
     sym (slice_get-map head_of program k) ∙ ap (λ (hs : List Head). slice_get hs k) same ∙ slice_get-map tree_head made.functions k
   where
     placed_heads : (base fs : List FunctionNode) → map head_of (map (placed base) fs) ≡ map head_of fs
@@ -175,11 +122,10 @@ heads_at program headed k =
 
 pub function_typed : (program : List FunctionNode) → IsProgram program → (k : ℕ) (f : FunctionNode) → IsSmall program k → slice_get program k ≡ Some f → IsTypedFunction program f
 function_typed program p k f small at =
-    let headed = program_headed program p in
-    let made = headed.made in
+    let made = program_made program p in
     let b : Based program made k f = based program made k f at in
     let is : placed made.base (made_of b.typing.tree b.typing.made) ≡ f = ap (placed made.base) b.typing.is ∙ b.is in
-    let few_params : length b.node.params ≤ 16 = params_few made.base k b.node made.limits b.at in
-    let same_params : b.typing.tree.params ≡ b.node.params = ap (λ (x : FunctionNode). x.params) b.typing.is in
+    let few_params : length f.params ≤ 16 = params_few program p k f at in
+    let same_params : b.typing.tree.params ≡ f.params = ap (λ (x : FunctionNode). x.params) is in
     subst (IsTypedFunction program) is
-    (made_typed program made (heads_at program headed) b.node b.typing (subst (λ ps. length ps ≤ 16) (sym same_params) few_params) (subst IsFew (sym is) (small_few program p k f small at)))
+    (made_typed program made (heads_at program made) b.node b.typing (subst (λ ps. length ps ≤ 16) (sym same_params) few_params) (subst IsFew (sym is) (small_few program p k f small at)))

@@ -7,13 +7,13 @@ use Rattle.ocl_program.specs.declared.functions.CallSite.{CallSite}
 use Rattle.ocl_program.specs.declared.functions.LocalArray.{LocalArray}
 use Rattle.ocl_program.specs.Nodes.{ExprNode, NumberNode, VariableNode, UnaryNode, BinaryNode, BothNode, EitherNode, ChooseNode, CastNode, LoadNode, CallNode, BuiltinNode, ParenNode, ArgNodes, NoArgs, ValueArg, ArrayArg, StmtNode, DeclareNode, LocalArrayNode, SetVariableNode, SetElementNode, CallStmtNode, BarrierNode, IfNode, IfElseNode, WhileNode, DoNode, ForNode, BreakNode, ContinueNode, ReturnNode, BlockNode, EmptyNode, StmtNodes, NoStmts, AndStmt, FunctionNode}
 use Rattle.ocl_sem.specs.Source.{Scope, scope_at, site_of, callee_of}
-use Rattle.ocl_types.specs.Exprs.{arity as taken}
+use Rattle.ocl_types.specs.Exprs.{arity}
 use Rattle.ocl_inline.specs.declared.trees.Binding.{Binding}
 use Rattle.ocl_inline.specs.declared.trees.Binding.TheVariants.{Variable as ToVariable, Dropped}
 use Rattle.ocl_inline.specs.Expansion.{Bodies, binding_at, call_flat, flat_expr, flat_args, flat_value, flat_stmt, flat_stmts}
 use Rattle.ocl_inline.specs.FlatNumbers.{bound_variables, flat_args_variables, flat_expr_variables, flat_stmt_variables, flat_value_variables, flat_variables}
 use Rattle.ocl_inline.specs.Trees.{FlatArgs}
-use Rattle.ocl_norm.specs.Proper.{AreValues, IsBound, TypedArgs, TypedExpr, TypedStmt, TypedStmts, TypedValue, arity}
+use Rattle.ocl_inline.specs.Proper.{AreValues, IsBound, TypedArgs, TypedExpr, TypedStmt, TypedStmts, TypedValue}
 use Rattle.program_laws.specs.Formed.{AreBelow}
 use Rattle.flat_typing.specs.Typed.{AreTypedArgs, AreTypedStmts, AreValues as AreValueNodes, Fits, IsCall, IsTypedExpr, IsTypedStmt, IsTypedValue, frame_of, head_of}
 use Rattle.flat_typing.proofs.Serving.{Serving, is_read, is_stored}
@@ -45,21 +45,6 @@ bound_below count (ToVariable variable elem) h = h.0
 bound_below count Dropped h = tt
 
 -- ---- built-in functions
-
-arities : (which : Builtin) → taken which ≡ arity which
-arities WorkDim = refl
-arities GlobalId = refl
-arities LocalId = refl
-arities GroupId = refl
-arities GlobalSize = refl
-arities LocalSize = refl
-arities NumGroups = refl
-arities GlobalOffset = refl
-arities Min = refl
-arities Max = refl
-arities Clamp = refl
-arities Abs = refl
-arities MulHi = refl
 
 values_flat : (bodies : Bodies) (program : List FunctionNode) (scope : Scope) (first : ℕ) (params : List Param) (k n : ℕ) (args : ArgNodes) → AreValueNodes n args
     → AreValues n (flat_args bodies program scope first params k args)
@@ -122,7 +107,7 @@ mutual
       call_typed params arrays count bodies program scope walk call args (site_of scope call) (callee_of program (site_of scope call)) refl refl typed.0
       (λ first taking. flat_args bodies program scope first taking 0 args) (λ first taking below'. args_expanded params arrays count bodies program scope walk first taking 0 args typed.1 below') below
   expr_expanded params arrays count bodies program scope walk (BuiltinNode which unsigned args) typed below = (
-    values_flat bodies program scope 0 [] 0 (arity which) args (subst (λ (n : ℕ). AreValueNodes n args) (arities which) typed.0),
+    values_flat bodies program scope 0 [] 0 (arity which) args typed.0,
     args_expanded params arrays count bodies program scope walk 0 [] 0 args typed.1 below,
   )
   expr_expanded params arrays count bodies program scope walk (ParenNode part) typed below = expr_expanded params arrays count bodies program scope walk part typed below

@@ -9,13 +9,13 @@ use Rattle.ocl_program.specs.declared.functions.LocalArray.{LocalArray}
 use Rattle.ocl_program.specs.Measures.{cut, measured, own_variables}
 use Rattle.ocl_program.specs.Nodes.{FunctionNode}
 use Rattle.ocl_sem.specs.Items.{kernel_scope}
-use Rattle.ocl_sem.specs.Source.{Scope, is_scalar as is_variable, is_scalar_kind as is_variable_kind, scope_at}
+use Rattle.ocl_sem.specs.Source.{Scope, is_scalar, scope_at}
 use Rattle.ocl_types.specs.Functions.{IsProgram}
 use Rattle.ocl_inline.specs.Expansion.{expanded, kernel_flat}
 use Rattle.ocl_inline.specs.FlatNumbers.{flat_variables}
 use Rattle.ocl_inline.proofs.Sound.{sound_of}
 use Rattle.ocl_inline.proofs.VariableNumbers.{variables_are_below}
-use Rattle.ocl_norm.specs.Proper.{IsTypedKernel, TypedStmts, is_scalar, is_scalar_kind}
+use Rattle.ocl_inline.specs.Proper.{IsTypedKernel, TypedStmts}
 use Rattle.program_laws.specs.Formed.{AreBelow, IsSmall}
 use Rattle.program_laws.proofs.Forming.{small_formed}
 use Rattle.program_laws.proofs.Limits.{callees_small, kernels_small}
@@ -46,20 +46,12 @@ typed_at program p params arrays count (suc levels) k scope small e serving belo
 
 -- ---- scalars
 
-kinds_alike : (kind : ParamKind) → is_scalar_kind kind ≡ is_variable_kind kind
-kinds_alike (Scalar elem) = refl
-kinds_alike (Pointer space elem readonly) = refl
-
-scalars_alike : (params : List Param) → count_by is_scalar params ≡ count_by is_variable params
-scalars_alike params = ap (λ (test : Param → Bool). count_by test params) (fun_ext (λ (p : Param). kinds_alike p.kind))
-
 scalars_within : (program : List FunctionNode) → IsProgram program → (k : ℕ) (f : FunctionNode) → IsSmall program k → slice_get program k ≡ Some f
     → count_by is_scalar f.params ≤ cut (measured own_variables program k)
 scalars_within program p k f small e =
     let few : measured own_variables program k ≤ 256 = small.0 in
     let all : measured own_variables program k ≡ own_variables f (measured own_variables program) = (measures_settle program p).variables k f e in
-    let scalars : count_by is_variable f.params ≤ f.variables = (small_formed program p k f small e).scalars in
-    let same : count_by is_scalar f.params ≡ count_by is_variable f.params = scalars_alike f.params in
+    let scalars : count_by is_scalar f.params ≤ f.variables = (small_formed program p k f small e).scalars in
     omega arith
 
 -- ---- the law

@@ -5,6 +5,7 @@ pub mod ExprGains
 pub mod StmtGains
 pub mod Params
 pub mod Bodies
+pub mod Variables
 pub mod Serving
 pub mod Expanded
 pub mod Kernels

@@ -14,6 +14,7 @@ use Rattle.ocl_program.specs.declared.exprs.ArrayRef.{ArrayRef}
 use Rattle.ocl_program.specs.declared.exprs.ArrayRef.TheVariants.{Parameter, Declared}
 use Rattle.ocl_program.specs.declared.functions.LocalArray.{LocalArray}
 use Rattle.ocl_program.specs.Nodes.{FunctionNode}
+use Rattle.ocl_types.specs.Exprs.{arity}
 use Rattle.ocl_types.specs.Functions.{IsProgram}
 use Rattle.ocl_inline.specs.declared.trees.Binding.{Binding}
 use Rattle.ocl_inline.specs.declared.trees.Binding.TheVariants.{Variable as ToVariable, Dropped}
@@ -21,7 +22,7 @@ use Rattle.ocl_inline.specs.Expansion.{kernel_flat}
 use Rattle.ocl_inline.specs.FlatLaws.{WhereKernel}
 use Rattle.ocl_inline.specs.Trees.{FlatValue, NoFlat, SomeFlat, FlatExpr, NumberFlat, VariableFlat, UnaryFlat, BinaryFlat, BothFlat, EitherFlat, ChooseFlat, CastFlat, LoadFlat, CallFlat, LostFlat, BuiltinFlat, ParenFlat, FlatArgs, NoFlatArgs, NumberArg, NamedArg, FlatStmt, DeclareFlat, LocalArrayFlat, SetVariableFlat, SetElementFlat, CallStmtFlat, BarrierFlat, IfFlat, IfElseFlat, WhileFlat, DoFlat, ForFlat, BreakFlat, ContinueFlat, ReturnFlat, BlockFlat, EmptyFlat, FlatStmts, NoFlats, AndFlat, FlatKernel}
 use Rattle.ocl_inline.proofs.KernelLaws.{IsFlatOf}
-use Rattle.ocl_norm.specs.Proper.{AreValues, DeclaredHas, HasElem, IsBound, IsTypedKernel, IsWritten, KindHas, KindWritten, ParamHas, ParamWritten, TypedArgs, TypedExpr, TypedStmt, TypedStmts, TypedValue, arity}
+use Rattle.ocl_inline.specs.Proper.{AreValues, DeclaredHas, HasElem, IsBound, IsTypedKernel, IsWritten, KindHas, KindWritten, ParamHas, ParamWritten, TypedArgs, TypedExpr, TypedStmt, TypedStmts, TypedValue}
 use Rattle.flat_typing.proofs.Kernels.{kernel_typed}
 
 elem_set : IsSet Elem

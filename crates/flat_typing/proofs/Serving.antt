@@ -16,7 +16,7 @@ use Rattle.item_settings.specs.Settings.{is_writable}
 use Rattle.ocl_sem.specs.Items.{kernel_scope}
 use Rattle.ocl_sem.specs.Source.{Scope, array_in, arrays_named, scope_at}
 use Rattle.ocl_types.specs.Names.{is_fixed}
-use Rattle.ocl_norm.specs.Proper.{DeclaredHas, HasElem, IsWritten, KindHas, KindWritten, ParamHas, ParamWritten}
+use Rattle.ocl_inline.specs.Proper.{DeclaredHas, HasElem, IsWritten, KindHas, KindWritten, ParamHas, ParamWritten}
 use Rattle.flat_typing.specs.Typed.{ArrayKind, Fits, Frame, IsOf, IsOpen, MayServe, Serves, array_kind, frame_of, kind_of, local_kind, named_kind, param_kind}
 
 -- ---- arrays that serve

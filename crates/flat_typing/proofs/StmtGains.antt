@@ -19,8 +19,9 @@ use Rattle.ocl_types.specs.Names.{meaning_of}
 use Rattle.ocl_types.specs.Exprs.{MaybeTyped, typed, typed_call, typed_option}
 use Rattle.ocl_types.specs.Stmts.{Place, Standing, declared_variable, opened, with_calls, is_count, count_value, most_elements, typed_count, Changed, Variable, Element, TypedTarget, assigned_name, assigned_array, typed_target, change_node, jump_in, returned, inner, in_turn, expr_in, option_in, one_more, typed_stmt, typed_stmts}
 use Rattle.program_laws.proofs.Passing.{passing, answered, tested, not_tested, test_held}
-use Rattle.program_laws.proofs.Pieces.{most}
-use Rattle.program_laws.proofs.StmtMoves.{with_name, declared_is, left_true}
+use Rattle.program_laws.specs.Formed.{expr_calls}
+use Rattle.program_laws.proofs.Pieces.{Pieces, most}
+use Rattle.program_laws.proofs.StmtMoves.{with_name, count_sized, declared_is, left_true}
 use Rattle.flat_typing.specs.Typed.{ArrayKind, AreTypedStmts, Frame, IsOf, IsOpen, IsTypedExpr, IsTypedStmt, IsTypedValue, local_kind, named_kind}
 use Rattle.flat_typing.proofs.Gains.{Gains, IsBinding, gains_as, gains_both, gains_closed, gains_opened, gains_this, gains_three, gains_within, get_before, get_behind}
 use Rattle.flat_typing.proofs.Names.{IsMeaning, entry_behind, meaning_is}
@@ -143,9 +144,10 @@ array_gains place st elem name count d h =
     let fits : place.outermost && (nat_le 1 (count_value t.value.expr) && nat_le (count_value t.value.expr) most_elements) ≡ true =
     test_held (place.outermost && (nat_le 1 (count_value t.value.expr) && nat_le (count_value t.value.expr) most_elements)) _ _ t.rest in
     let outer : place.outermost ≡ true = left_true place.outermost (nat_le 1 (count_value t.value.expr) && nat_le (count_value t.value.expr) most_elements) fits in
+    let plain : expr_calls c.value ≡ [] = ap (λ (p : Pieces). p.calls) (count_sized place name.pos count c.value c.first).plain in
     answered (StmtGains place.functions place.outermost st) c.rest
-    (subst (λ (x : Standing). Gains place.functions place.outermost st (λ frame. Unit {0}) (record x { arrays = x.arrays ++ record { elem = elem; count = count_value c.value } ∷ [] }))
-    (declared_is name binding st now.value now.first) (local_named place.functions place.outermost name st elem (count_value c.value) outer))
+    (gains_as (λ frame none. plain) (subst (λ (x : Standing). Gains place.functions place.outermost st (λ frame. Unit {0}) (record x { arrays = x.arrays ++ record { elem = elem; count = count_value c.value } ∷ [] }))
+    (declared_is name binding st now.value now.first) (local_named place.functions place.outermost name st elem (count_value c.value) outer)))
 
 -- ---- statements
 

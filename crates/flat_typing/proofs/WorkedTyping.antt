@@ -71,7 +71,7 @@ put_typed = record { body = ((refl, refl, tt, (refl, tt)), tt); arrays = λ help
 copy_typed : IsTypedFunction program copy
 copy_typed = record {
   body = (
-    tt,
+    refl,
     (
       (
         (

@@ -1,5 +1,5 @@
 -- What the body of a typed function has: each access is by the type of its array's elements, each store is to an array that accepts it,
--- and each call is given what its function takes.
+-- each call is given what its function takes, and none stands in the count of an array.
 use Rattle.std.specs.Prelude.{◌≡◌, ℕ, zero, suc, Bool, false, List, [], ◌∷◌, Option, None, Some, option_map, slice_get}
 use Rattle.vx_base.specs.declared.types.Elem.{Elem}
 use Rattle.vx_base.specs.declared.types.ParamKind.{ParamKind}
@@ -10,10 +10,11 @@ use Rattle.ocl_ast.specs.declared.units.Param.{Param}
 use Rattle.ocl_program.specs.declared.exprs.ArrayRef.{ArrayRef}
 use Rattle.ocl_program.specs.declared.exprs.ArrayRef.TheVariants.{Parameter, Declared}
 use Rattle.ocl_program.specs.declared.functions.LocalArray.{LocalArray}
-use Rattle.ocl_program.specs.Nodes.{ExprNode, UnaryNode, BinaryNode, BothNode, EitherNode, ChooseNode, CastNode, LoadNode, CallNode, BuiltinNode, ParenNode, ArgNodes, NoArgs, ValueArg, ArrayArg, StmtNode, DeclareNode, SetVariableNode, SetElementNode, CallStmtNode, IfNode, IfElseNode, WhileNode, DoNode, ForNode, ReturnNode, BlockNode, StmtNodes, NoStmts, AndStmt, FunctionNode}
+use Rattle.ocl_program.specs.Nodes.{ExprNode, UnaryNode, BinaryNode, BothNode, EitherNode, ChooseNode, CastNode, LoadNode, CallNode, BuiltinNode, ParenNode, ArgNodes, NoArgs, ValueArg, ArrayArg, StmtNode, DeclareNode, LocalArrayNode, SetVariableNode, SetElementNode, CallStmtNode, IfNode, IfElseNode, WhileNode, DoNode, ForNode, ReturnNode, BlockNode, StmtNodes, NoStmts, AndStmt, FunctionNode}
 use Rattle.ocl_sem.specs.Source.{callee_of}
 use Rattle.ocl_types.specs.Exprs.{arity}
 use Rattle.ocl_types.specs.Names.{is_fixed}
+use Rattle.program_laws.specs.Formed.{expr_calls}
 
 -- ---- arrays
 
@@ -124,6 +125,7 @@ IsTypedValue frame (Some e) = IsTypedExpr frame e
 abbrev mutual
   pub IsTypedStmt : Frame → StmtNode → Type 0
   IsTypedStmt frame (DeclareNode variable elem value) = IsTypedValue frame value
+  IsTypedStmt frame (LocalArrayNode array count) = expr_calls count ≡ []
   IsTypedStmt frame (SetVariableNode variable elem op unsigned value) = IsTypedValue frame value
   IsTypedStmt frame (SetElementNode array elem place op unsigned value pos) =
       IsOf (named_kind frame array) elem × IsOpen (named_kind frame array) × IsTypedExpr frame place × IsTypedValue frame value

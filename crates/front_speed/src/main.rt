@@ -178,7 +178,7 @@ fn is_structured(alloc: Global, program: &Program, kernel: u32) -> bool
     let Ok(code) = normalise(alloc, &flat) else {
         return false;
     };
-    kir_flow::fits(&code) && flags(alloc, code).is_ok()
+    kir_flow::fits(&code) && flags(alloc, &code).is_ok()
 }
 
 /// Whether a program has the kernel `k`, of which structured code is then made a hundred times.

@@ -3,8 +3,11 @@ pub mod Shapes
 pub mod Lists
 pub mod Machine
 pub mod Views
+pub mod Rising
 pub mod Launches
 pub mod Measures
+pub mod Loops
+pub mod Typing
 pub mod Weights
 pub mod FlaggedWords
 pub mod Numbered

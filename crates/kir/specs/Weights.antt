@@ -1,6 +1,6 @@
 -- How many words of code operations come to at most, where each variable is a word of memory that is loaded before it is used and
 -- stored behind, and a branch that may part the work-items of a warp keeps a word of its own.
-use Rattle.std.specs.Prelude.{ℕ, ◌+◌}
+use Rattle.std.specs.Prelude.{ℕ, zero, suc, ◌+◌}
 use Rattle.ocl_program.specs.declared.exprs.ArrayRef.{ArrayRef}
 use Rattle.ocl_program.specs.declared.exprs.ArrayRef.TheVariants.{Parameter, Declared}
 use Rattle.kir.specs.Trees.{Operand, VariableOf, NumberOf, Op, Set, Calculate, Fit, Id, Load, Store, Check, Barrier, If, Loop, Call, Ops, NoOps, AndOp}
@@ -34,10 +34,12 @@ calculate_words a b = operand_words a + operand_words b + 2
 abbrev pub fit_words : Operand → ℕ
 fit_words a = operand_words a + 5
 
--- a dimension that is no number is looked for among all
+-- Of dimension 0 it is a word that is kept. Of another number it is computed from three words, and of a dimension in a variable from those
+-- and the dimension's bits, without a branch.
 abbrev pub id_words : Operand → ℕ
-id_words (VariableOf k) = 60
-id_words (NumberOf n) = 3
+id_words (VariableOf k) = 28
+id_words (NumberOf zero) = 3
+id_words (NumberOf (suc n)) = 12
 
 -- the start of the array, the index times the size of an element, their sum, and the load
 abbrev pub load_words : Operand → ℕ

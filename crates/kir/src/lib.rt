@@ -18,7 +18,6 @@ pub mod runs;
 pub mod states;
 pub mod steps;
 pub mod tasks;
-pub mod turns;
 
 pub use items::{KirItems, kir_next};
 pub use lists::{put, put_set};

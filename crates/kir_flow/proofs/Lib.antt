@@ -11,6 +11,8 @@ pub mod FlagsAlike
 pub mod NoJumps
 pub mod SitesKept
 pub mod NestingKept
+pub mod LoopsKept
+pub mod TypesKept
 pub mod RoomKept
 pub mod ChecksKept
 pub mod WordsGiven

@@ -1,8 +1,9 @@
--- How many variables there are: at most two for each loop and branch and one for each call that stand within one another, and one.
+-- How many variables there are: at most two for each loop and one for each call that stand within one another, and one.
 use Rattle.std.proofs.Common.{◌≡◌, ℕ, suc, ◌+◌, ◌*◌, ◌<◌, ◌≤◌, max, Bool, true, false, ◌&&◌, not, refl, ap, sym, ◌∙◌, subst, arith, true≢false}
 use Rattle.std.specs.Prelude.{if◌then◌else◌}
 use Rattle.std.proofs.lemmas.Bool.{cond_both}
-use Rattle.kir.specs.Measures.{is_single, nesting, nesting_in, calls, calls_in}
+use Rattle.kir.specs.Loops.{loop_nesting, loop_nesting_in}
+use Rattle.kir.specs.Measures.{is_single, calls, calls_in}
 use Rattle.kir.specs.Trees.{Operand, VariableOf, NumberOf, Op, Set, Calculate, Fit, Id, Load, Store, Check, Barrier, If, Loop, Break, Continue, Return, Call, Ops, NoOps, AndOp}
 use Rattle.kir.specs.Trees.{KirCode}
 use Rattle.kir_flow.specs.declared.scopes.Jump.{Jump}
@@ -16,9 +17,6 @@ use Rattle.kir.specs.Numbered.{IsBelow, AreBelow, OpBelow}
 use Rattle.kir_flow.proofs.FlagStates.{run_inside, live_inside}
 
 -- ---- how many flags
-
-if_room : (a b n1 n2 c1 c2 : ℕ) → a ≤ 2 * n1 + c1 → b ≤ 2 * n2 + c2 → max a b ≤ 2 * suc (max n1 n2) + max c1 c2
-if_room a b n1 n2 c1 c2 e e' = omega arith
 
 cons_room : (a b n1 n2 c1 c2 : ℕ) → a ≤ 2 * n1 + c1 → b ≤ 2 * n2 + c2 → max a b ≤ 2 * max n1 n2 + max c1 c2
 cons_room a b n1 n2 c1 c2 e e' = omega arith
@@ -35,39 +33,39 @@ no_more : (a n k : ℕ) → a ≤ 2 * n + k → a ≤ 2 * suc n + k
 no_more a n k h = omega arith
 
 mutual
-  pub room_bound : (sure : Bool) (ops : Ops) → room sure ops ≤ 2 * nesting ops + calls ops
+  pub room_bound : (sure : Bool) (ops : Ops) → room sure ops ≤ 2 * loop_nesting ops + calls ops
   room_bound sure NoOps = omega arith
   room_bound sure (AndOp op ops) =
-      cons_room (op_room sure op) (room (sure && not (op_is_left op)) ops) (nesting_in op) (nesting ops) (calls_in op) (calls ops) (op_room_bound sure op)
+      cons_room (op_room sure op) (room (sure && not (op_is_left op)) ops) (loop_nesting_in op) (loop_nesting ops) (calls_in op) (calls ops) (op_room_bound sure op)
       (room_bound (sure && not (op_is_left op)) ops)
 
-  op_room_bound : (sure : Bool) (op : Op) → op_room sure op ≤ 2 * nesting_in op + calls_in op
-  op_room_bound sure (If test one other) = if_room (room sure one) (room sure other) (nesting one) (nesting other) (calls one) (calls other) (room_bound sure one)
+  op_room_bound : (sure : Bool) (op : Op) → op_room sure op ≤ 2 * loop_nesting_in op + calls_in op
+  op_room_bound sure (If test one other) = cons_room (room sure one) (room sure other) (loop_nesting one) (loop_nesting other) (calls one) (calls other) (room_bound sure one)
       (room_bound sure other)
   op_room_bound sure (Loop head test body st) =
-      let n : ℕ = max (nesting head) (max (nesting body) (nesting st)) in
+      let n : ℕ = max (loop_nesting head) (max (loop_nesting body) (loop_nesting st)) in
       let k : ℕ = max (calls head) (max (calls body) (calls st)) in
       cond_both (is_flagged sure head body st) (2 + max (room false head) (max (room true body) (room false st)))
       (if leaves ByContinue body then max (room true head) (max (suc (room true body)) (room true st)) else max (room true head) (max (room true body) (room true st)))
-      (λ x. x ≤ 2 * suc (max (nesting head) (max (nesting body) (nesting st))) + max (calls head) (max (calls body) (calls st)))
-      (λ e. let h : max (room false head) (max (room true body) (room false st)) ≤ 2 * max (nesting head) (max (nesting body) (nesting st)) + max (calls head)
+      (λ x. x ≤ 2 * suc (max (loop_nesting head) (max (loop_nesting body) (loop_nesting st))) + max (calls head) (max (calls body) (calls st)))
+      (λ e. let h : max (room false head) (max (room true body) (room false st)) ≤ 2 * max (loop_nesting head) (max (loop_nesting body) (loop_nesting st)) + max (calls head)
       (max (calls body) (calls st)) =
-      most_of (room false head) (room true body) (room false st) (nesting head) (nesting body) (nesting st) (calls head) (calls body) (calls st)
+      most_of (room false head) (room true body) (room false st) (loop_nesting head) (loop_nesting body) (loop_nesting st) (calls head) (calls body) (calls st)
       (room_bound false head) (room_bound true body) (room_bound false st) in
       omega arith)
       (λ e.
-      let h : max (room true head) (max (room true body) (room true st)) ≤ 2 * max (nesting head) (max (nesting body) (nesting st)) + max (calls head)
+      let h : max (room true head) (max (room true body) (room true st)) ≤ 2 * max (loop_nesting head) (max (loop_nesting body) (loop_nesting st)) + max (calls head)
       (max (calls body) (calls st)) =
-      most_of (room true head) (room true body) (room true st) (nesting head) (nesting body) (nesting st) (calls head) (calls body) (calls st)
+      most_of (room true head) (room true body) (room true st) (loop_nesting head) (loop_nesting body) (loop_nesting st) (calls head) (calls body) (calls st)
       (room_bound true head) (room_bound true body) (room_bound true st) in
       cond_both (leaves ByContinue body) (max (room true head) (max (suc (room true body)) (room true st))) (max (room true head) (max (room true body) (room true st)))
-      (λ x. x ≤ 2 * suc (max (nesting head) (max (nesting body) (nesting st))) + max (calls head) (max (calls body) (calls st)))
-      (λ e'. one_more (room true head) (room true body) (room true st) (max (nesting head) (max (nesting body) (nesting st))) (max (calls head) (max (calls body) (calls st))) h)
-      (λ e'. no_more (max (room true head) (max (room true body) (room true st))) (max (nesting head) (max (nesting body) (nesting st)))
+      (λ x. x ≤ 2 * suc (max (loop_nesting head) (max (loop_nesting body) (loop_nesting st))) + max (calls head) (max (calls body) (calls st)))
+      (λ e'. one_more (room true head) (room true body) (room true st) (max (loop_nesting head) (max (loop_nesting body) (loop_nesting st))) (max (calls head) (max (calls body) (calls st))) h)
+      (λ e'. no_more (max (room true head) (max (room true body) (room true st))) (max (loop_nesting head) (max (loop_nesting body) (loop_nesting st)))
       (max (calls head) (max (calls body) (calls st))) h))
   op_room_bound sure (Call body) =
-      let h : room sure body ≤ 2 * nesting body + calls body = room_bound sure body in
-      cond_both (is_left body) (suc (room sure body)) (room sure body) (λ x. x ≤ 2 * nesting body + suc (calls body)) (λ e. omega arith) (λ e. omega arith)
+      let h : room sure body ≤ 2 * loop_nesting body + calls body = room_bound sure body in
+      cond_both (is_left body) (suc (room sure body)) (room sure body) (λ x. x ≤ 2 * loop_nesting body + suc (calls body)) (λ e. omega arith) (λ e. omega arith)
   op_room_bound sure (Set d a) = omega arith
   op_room_bound sure (Calculate d op a b) = omega arith
   op_room_bound sure (Fit d elem a) = omega arith
@@ -80,9 +78,9 @@ mutual
   op_room_bound sure Continue = omega arith
   op_room_bound sure Return = omega arith
 
--- at most two flags for each loop and branch and one for each call within one another, and the kernel's
-pub flags_variables : (code : KirCode) → (flags code).variables ≤ suc code.variables + (2 * nesting code.ops + calls code.ops)
-flags_variables code = let h : room true code.ops ≤ 2 * nesting code.ops + calls code.ops = room_bound true code.ops in omega arith
+-- at most two flags for each loop and one for each call within one another, and the kernel's
+pub flags_variables : (code : KirCode) → (flags code).variables ≤ suc code.variables + (2 * loop_nesting code.ops + calls code.ops)
+flags_variables code = let h : room true code.ops ≤ 2 * loop_nesting code.ops + calls code.ops = room_bound true code.ops in omega arith
 
 -- ---- all are numbered below
 

@@ -11,6 +11,7 @@ ghost use Rattle.kir_flow.specs.WithoutJumps.{WithoutJumps};
 use crate::flagging::push_flagged;
 use crate::leaving::{both, is_flagged, is_left, leaves, op_is_left};
 use crate::scopes::{Jump, Scope};
+use item_settings::copied_params;
 use kir::{Kir, Op, Operand, put_set};
 use std::alloc::{AllocError, Global};
 use vx_base::Memory;
@@ -105,20 +106,20 @@ fn kernel_ops(alloc: Global, flag: u32, ops: &[Op]) -> Result<Vec<Op>, AllocErro
 }
 
 /// The kernel with flags.
-fn flagged_kernel(alloc: Global, code: Kir) -> Result<Kir, Memory>
-    requires numbers { (flags_of (code_of code)).variables < 2 ^ 32 }
-    ensures { IfOk result (λ made. code_of made ≡ flags_of (code_of code)) }
+fn flagged_kernel(alloc: Global, code: &Kir) -> Result<Kir, Memory>
+    requires numbers { (flags_of (code_of code.now)).variables < 2 ^ 32 }
+    ensures { IfOk result (λ made. code_of made ≡ flags_of (code_of code.now)) }
 {
     let variables = code.variables + 1 + room(true, code.ops.as_slice());
-    match kernel_ops(alloc, code.variables, code.ops.as_slice()) {
-        Ok(ops) => Ok(Kir {
-            params: code.params,
-            arrays: code.arrays,
-            variables,
-            ops,
-        }),
-        Err(_) => Err(Memory),
-    }
+    let params = copied_params(alloc, code.params.as_slice())?;
+    let arrays = code.arrays.as_slice().to_vec(alloc)?;
+    let ops = kernel_ops(alloc, code.variables, code.ops.as_slice())?;
+    Ok(Kir {
+        params,
+        arrays,
+        variables,
+        ops,
+    })
 }
 
 /// Whether the numbers of all variables of a kernel are words once its jumps are flags.
@@ -132,12 +133,12 @@ pub fn fits(code: &Kir) -> bool
 }
 
 /// A kernel with flags in place of jumps, which are variables numbered behind its own. It has no jump left and asks for what the
-/// kernel asks for; its barriers, checks, branches, loops, variables and words are as those were, but for the flags. All numbers of
-/// variables are words. Memory is the only reason to give up.
-pub fn flags(alloc: Global, code: Kir) -> Result<Kir, Memory>
-    requires numbers { (flags_of (code_of code)).variables < 2 ^ 32 }
-    ensures flags { IfOk result (λ made. code_of made ≡ flags_of (code_of code)) }
-    ensures keeps { IfOk result (λ made. WithoutJumps (code_of code) (code_of made)) }
+/// kernel asks for; its barriers, accesses, checks, branches, loops, variables and words are as those were, but for the flags. All
+/// numbers of variables are words. Memory is the only reason to give up.
+pub fn flags(alloc: Global, code: &Kir) -> Result<Kir, Memory>
+    requires numbers { (flags_of (code_of code.now)).variables < 2 ^ 32 }
+    ensures flags { IfOk result (λ made. code_of made ≡ flags_of (code_of code.now)) }
+    ensures keeps { IfOk result (λ made. WithoutJumps (code_of code.now) (code_of made)) }
 {
     let made = flagged_kernel(alloc, code)?;
     Ok(made)

@@ -11,4 +11,5 @@ pub mod laws;
 pub mod leaving;
 pub mod scopes;
 pub mod singles;
+
 pub use kernels::{fits, flags};

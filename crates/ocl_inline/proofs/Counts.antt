@@ -1,4 +1,4 @@
--- How often a number is met in a list, and sums along a list.
+-- Sums along a list, and how often numbers below a bound are met in it.
 use Rattle.std.proofs.Common.{◌≡◌, refl, sym, ap, ◌∙◌, ℕ, suc, ◌+◌, ◌-◌, ◌<◌, ◌≤◌, ◌==◌, nat_lt, Bool, true, false, if◌then◌else◌, inl, inr, List, [], ◌∷◌, ◌++◌, map, length, slice_get, Some, arith, eqb-true, eq-eqb}
 use Rattle.std.specs.List.{AllByRecursion, IsDistinct, sum}
 use Rattle.std.proofs.lemmas.Bool.{cases_Bool, lt-ltb, le-ltb, ltb-true}
@@ -6,23 +6,12 @@ use Rattle.std.proofs.lemmas.List.Sums.{sum_by-cons}
 use Rattle.ocl_program.specs.Measures.{where_some}
 use Rattle.ocl_inline.specs.FlatNumbers.{AreDifferent}
 use Rattle.program_laws.specs.Formed.{AreBelow, counted_up}
-
--- 1 at the number itself
-abbrev pub one : ℕ → ℕ → ℕ
-one n k = if n == k then 1 else 0
-
-abbrev pub met : ℕ → List ℕ → ℕ
-met n [] = 0
-met n (k ∷ ks) = one n k + met n ks
+use Rattle.ocl_inline.proofs.Meetings.{met, once, one}
 
 -- a sum along a list
 abbrev pub weight : {A : Type 0} → (A → ℕ) → List A → ℕ
 weight w [] = 0
 weight w (x ∷ xs) = w x + weight w xs
-
-pub met_append : (n : ℕ) (xs ys : List ℕ) → met n (xs ++ ys) ≡ met n xs + met n ys
-met_append n [] ys = omega arith
-met_append n (x ∷ xs) ys = let h : met n (xs ++ ys) ≡ met n xs + met n ys = met_append n xs ys in omega arith
 
 pub weight_append : {A : Type 0} (w : A → ℕ) (xs ys : List A) → weight w (xs ++ ys) ≡ weight w xs + weight w ys
 weight_append w [] ys = omega arith
@@ -69,26 +58,6 @@ between_both n a b c first second =
     let h' : under n b ≤ under n c = under_more n b c second in omega arith
 
 -- ---- from how often each number is met
-
-all_other : (k : ℕ) (ks : List ℕ) → met k ks ≤ 0 → AllByRecursion (λ n. (k == n) ≡ false) ks
-all_other k [] none = tt
-all_other k (x ∷ ks) none = elim (cases_Bool (k == x)) [
-  | inl same ↦
-      let here : one k x ≡ 1 = ap (λ (b : Bool). if b then 1 else 0) same in
-      absurd (omega arith)
-  | inr other ↦ (other, all_other k ks (omega arith))
-]
-
-once : (k : ℕ) → one k k ≡ 1
-once k = ap (λ (b : Bool). if b then 1 else 0) (eq-eqb k k refl)
-
-pub are_different : (ks : List ℕ) → ((n : ℕ) → met n ks ≤ 1) → AreDifferent ks
-unfolding IsDistinct
-are_different [] at_most = tt
-are_different (k ∷ ks) at_most = (
-  all_other k ks (let here : one k k ≡ 1 = once k in let all : one k k + met k ks ≤ 1 = at_most k in omega arith),
-  are_different ks (λ n. let all : one n k + met n ks ≤ 1 = at_most n in omega arith),
-)
 
 pub are_below : (bound : ℕ) (ks : List ℕ) → ((n : ℕ) → met n ks ≤ under n bound) → AreBelow bound ks
 are_below bound [] at_most = tt

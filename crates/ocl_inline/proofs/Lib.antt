@@ -6,6 +6,7 @@ pub mod Rows
 pub mod Onto
 pub mod Parts
 pub mod Sound
+pub mod Meetings
 pub mod Counts
 pub mod Tables
 pub mod SitesHeld

@@ -10,7 +10,8 @@ use Rattle.ocl_inline.specs.FlatLaws.{HaveSites}
 use Rattle.ocl_inline.specs.FlatNumbers.{flat_sites}
 use Rattle.program_laws.specs.Formed.{IsFormed, IsSmall, counted_up, stmts_calls, stmts_sites}
 use Rattle.ocl_inline.proofs.Sound.{IsSound, OfSmallFunctions}
-use Rattle.ocl_inline.proofs.Counts.{are_below, are_different, between, between_both, by_row, met, one, one_between, rows_in_order, sum_weight, under, under_one, weight, weight_map}
+use Rattle.ocl_inline.proofs.Counts.{are_below, between, between_both, by_row, one_between, rows_in_order, sum_weight, under, under_one, weight, weight_map}
+use Rattle.ocl_inline.proofs.Meetings.{are_different, met, one}
 use Rattle.ocl_inline.proofs.SitesHeld.{CallsHave, holds_fact, stmts_hold}
 use Rattle.ocl_inline.proofs.Tables.{IsWithin, call_within, cut_small, in_call, rows_apart}
 

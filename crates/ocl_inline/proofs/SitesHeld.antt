@@ -8,7 +8,8 @@ use Rattle.ocl_inline.specs.Expansion.{Bodies, call_flat, flat_expr, flat_args, 
 use Rattle.ocl_inline.specs.FlatNumbers.{flat_args_sites, flat_expr_sites, flat_sites, flat_stmt_sites, flat_value_sites}
 use Rattle.program_laws.specs.Formed.{args_calls, expr_calls, stmt_calls, stmt_sites, stmts_calls, stmts_sites, where_written}
 use Rattle.ocl_inline.specs.Trees.{FlatArgs}
-use Rattle.ocl_inline.proofs.Counts.{met, met_append, one, weight, weight_append}
+use Rattle.ocl_inline.proofs.Counts.{weight, weight_append}
+use Rattle.ocl_inline.proofs.Meetings.{met, met_append, one}
 
 -- a number is met among some others at most as often as own barriers and calls have it
 pub Holds : (ℕ → ℕ) → (ℕ → ℕ) → ℕ → List ℕ → List ℕ → List ℕ → Type 0

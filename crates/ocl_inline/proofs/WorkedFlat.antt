@@ -29,15 +29,18 @@ function_of kernel params calls body = record {
   body = body;
 }
 
+-- `int x`
+abbrev number : List Param
+number = record { name = record { text = codes "x"; pos = record { line = 1; col = 1 } }; kind = Scalar Int; constant = false } ∷ []
+
 -- `void f(int x) { barrier(..); x = x; }`
 abbrev helper : FunctionNode
-helper = function_of false
-    (record { name = record { text = codes "x"; pos = record { line = 1; col = 1 } }; kind = Scalar Int; constant = false } ∷ []) []
+helper = function_of false number []
     (AndStmt (BarrierNode 0) (AndStmt (SetVariableNode 0 Int Set false (Some (VariableNode 0 Int))) NoStmts))
 
--- `f(7); f(x); barrier(..);`
+-- `kernel void k(int x) { f(7); f(x); barrier(..); }`
 abbrev caller : FunctionNode
-caller = function_of true []
+caller = function_of true number
     (record { callee = 0; variables = 1; sites = 1 } ∷ record { callee = 0; variables = 2; sites = 2 } ∷ [])
     (AndStmt (CallStmtNode (CallNode 0 (ValueArg (NumberNode 7 false) NoArgs))) (AndStmt (CallStmtNode (CallNode 1 (ValueArg (VariableNode 0 Int) NoArgs))) (AndStmt (BarrierNode 0) NoStmts)))
 
@@ -98,6 +101,7 @@ unfolding measured_by
 helper_formed = record {
   variables = (omega arith, (omega arith, tt));
   scalars = omega arith;
+  declared = omega arith;
   calls = refl;
   sites = refl;
   table = refl;
@@ -115,6 +119,7 @@ unfolding measured_by
 caller_formed = record {
   variables = (omega arith, tt);
   scalars = omega arith;
+  declared = omega arith;
   calls = refl;
   sites = refl;
   table = refl;

@@ -6,6 +6,7 @@ pub mod Laws
 pub mod Shapes
 pub mod Expanding
 pub mod Sizes
+pub mod Proper
 pub mod FlatNumbers
 pub mod FlatMeasures
 pub mod FlatLaws

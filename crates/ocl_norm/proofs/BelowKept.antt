@@ -25,7 +25,7 @@ use Rattle.ocl_inline.specs.declared.trees.Binding.{Binding}
 use Rattle.ocl_inline.specs.declared.trees.Binding.TheVariants.{Variable as ToVariable, Dropped}
 use Rattle.ocl_norm.specs.Normal.{Part, calls, right_calls, right_branches, pair_ops, bound_ops, load_ops, store_ops, restore_ops, combined_variable, assigned_variable, changed_element, assigned_element, given_ops, value_ops, builtin_ops, args_ops, right_ops, declared_ops, return_ops, loop_ops, stmt_ops, stmts_ops, normal_kernel}
 use Rattle.ocl_norm.specs.Operators.{truth_ops, unary_ops, less_ops, binary_ops, picked_ops, magnitude_ops, one_ops, two_ops}
-use Rattle.ocl_norm.specs.Proper.{IsBound, IsProperKernel}
+use Rattle.ocl_inline.specs.Proper.{IsBound, IsProperKernel}
 use Rattle.ocl_norm.proofs.ProperParts.{ProperArgs, ProperExpr, ProperStmt, ProperStmts, ProperValue, body_proper}
 use Rattle.ocl_norm.specs.Rooms.{one_room, two_room, pair_room, assigned_room, value_room, builtin_room, args_room, right_room, stmt_room, stmts_room}
 use Rattle.ocl_norm.specs.Standings.{Standing, Fixed, Named, Made, standing, right_standing, operand_at, copied, held_at, above, settled}

@@ -22,7 +22,7 @@ use Rattle.ocl_inline.specs.declared.trees.Binding.{Binding}
 use Rattle.ocl_inline.specs.declared.trees.Binding.TheVariants.{Variable as ToVariable, Dropped}
 use Rattle.ocl_norm.specs.Normal.{Part, calls, right_calls, branches, args_branch, right_branches, pair_ops, bound_ops, load_ops, store_ops, combined_variable, assigned_variable, combined_element, changed_element, assigned_element, given_ops, value_ops, builtin_ops, args_ops, right_ops, declared_ops, return_ops, loop_ops, stmt_ops, stmts_ops, normal_kernel}
 use Rattle.ocl_norm.specs.Operators.{truth_ops, unary_ops, binary_ops, one_ops, two_ops}
-use Rattle.ocl_norm.specs.Proper.{IsProperKernel}
+use Rattle.ocl_inline.specs.Proper.{IsProperKernel}
 use Rattle.ocl_norm.proofs.ProperParts.{ProperArgs, ProperExpr, ProperStmt, ProperStmts, ProperValue, body_proper}
 use Rattle.ocl_norm.specs.Standings.{Standing, Fixed, Named, Made, standing, right_standing, operand_at, copied, held_at, above, settled}
 use Rattle.ocl_norm.proofs.InFront.{InFront, truth_in, unary_in, binary_in, one_in, two_in, copied_in, settled_in}

@@ -11,7 +11,7 @@ use Rattle.ocl_inline.specs.Shapes.{flat_arguments}
 use Rattle.ocl_inline.specs.Trees.{FlatExpr}
 use Rattle.ocl_norm.specs.Arguments.{Values, NoValue, OneValue, TwoValues, ThreeValues, values_in}
 use Rattle.ocl_norm.specs.Counting.{counted}
-use Rattle.ocl_norm.specs.Proper.{ArgsWords, ExprWords}
+use Rattle.ocl_inline.specs.Proper.{ArgsWords, ExprWords}
 use Rattle.ocl_norm.specs.Rooms.{assigned_room, one_room, pair_room, two_room}
 use Rattle.ocl_norm.specs.Sizes.{args_size}
 use Rattle.ocl_norm.specs.Standings.{Standing, Fixed, Named, Made, above}

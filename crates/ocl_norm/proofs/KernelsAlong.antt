@@ -17,7 +17,7 @@ use Rattle.ocl_norm.specs.Normal.{calls, value_ops, right_ops, right_calls, righ
 use Rattle.ocl_norm.specs.Operators.{binary_ops}
 use Rattle.kir.specs.Trees.{NumberOf, Set, Fit, AndOp}
 use Rattle.kir.specs.Numbered.{GivesWords}
-use Rattle.ocl_norm.specs.Proper.{HasElem, IsWritten}
+use Rattle.ocl_inline.specs.Proper.{HasElem, IsWritten}
 use Rattle.ocl_norm.proofs.ProperParts.{ProperArgs, ProperExpr, ProperStmt, ProperStmts, ProperValue}
 use Rattle.ocl_norm.specs.Standings.{Named, Made, standing, right_standing, operand_at}
 use Rattle.ocl_norm.proofs.AccessesAlong.{Accesses, Changes}

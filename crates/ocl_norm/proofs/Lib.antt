@@ -10,7 +10,6 @@ pub mod Building
 pub mod Counting
 pub mod InFront
 pub mod DepthKept
-pub mod Meetings
 pub mod SitesKept
 pub mod ChecksKept
 pub mod RoomKept
@@ -18,6 +17,7 @@ pub mod PartWords
 pub mod FewNested
 pub mod WordsKept
 pub mod BelowKept
+pub mod TypesKept
 pub mod Skips
 pub mod StatementsAlong
 pub mod ElementsAlong

@@ -24,7 +24,8 @@ use Rattle.ocl_inline.specs.FlatTasks.{flat_parts}
 use Rattle.ocl_inline.specs.Trees.{FlatKernel}
 use Rattle.ocl_norm.specs.Normal.{normal_kernel}
 use Rattle.kir.specs.Numbered.{GivesWords}
-use Rattle.ocl_norm.specs.Proper.{IsProperKernel, is_scalar, is_scalar_kind}
+use Rattle.ocl_inline.specs.Proper.{IsProperKernel}
+use Rattle.ocl_sem.specs.Source.{is_scalar, is_scalar_kind}
 use Rattle.ocl_norm.proofs.ProperParts.{body_proper}
 use Rattle.ocl_norm.proofs.AccessLaws.{accesses_of, changes_of}
 use Rattle.ocl_norm.proofs.KernelsAlong.{Knows, stmts_go}

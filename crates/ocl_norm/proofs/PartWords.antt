@@ -1,5 +1,5 @@
 -- How many words of code the parts of operations come to at most, once jumps are flags.
-use Rattle.std.proofs.Common.{ℕ, ◌+◌, ◌*◌, ◌≤◌, Bool, true, false, arith}
+use Rattle.std.proofs.Common.{ℕ, zero, suc, ◌+◌, ◌*◌, ◌≤◌, Bool, true, false, arith}
 use Rattle.vx_base.specs.declared.types.Elem.{Elem}
 use Rattle.vx_base.specs.declared.types.Pos.{Pos}
 use Rattle.ocl_ast.specs.declared.exprs.BinOp.{BinOp}
@@ -18,7 +18,6 @@ use Rattle.kir.specs.Trees.{Operand, VariableOf, NumberOf, Set, Calculate, Fit, 
 use Rattle.kir.specs.Weights.{operand_words, test_words, count_words}
 use Rattle.ocl_inline.specs.declared.trees.Binding.{Binding}
 use Rattle.ocl_inline.specs.declared.trees.Binding.TheVariants.{Variable as ToVariable, Dropped}
-use Rattle.ocl_norm.specs.Dimensions.{dimension, looked_for}
 use Rattle.ocl_norm.specs.Normal.{Part, bound_ops, load_ops, store_ops, restore_ops, given_ops}
 use Rattle.ocl_norm.specs.Operators.{truth_ops, unary_ops, binary_ops, one_ops, two_ops}
 use Rattle.ocl_norm.specs.Rooms.{one_room}
@@ -125,19 +124,20 @@ magnitude_most : (unsigned : Bool) (a : Operand) (d : ℕ) (c : Ops) → operand
 magnitude_most true a d c o r = omega arith
 magnitude_most false a d c o r = omega arith
 
-pub id_adds : (which : Builtin) (n : ℕ) → Adds 12 (λ d c. AndOp (Id d which (NumberOf n)) c)
-id_adds which n d c = let r : runs true c ≤ runs false c = runs_fewer c in omega arith
+pub id_adds : (which : Builtin) → Adds 12 (λ d c. AndOp (Id d which (NumberOf 0)) c)
+id_adds which d c = let r : runs true c ≤ runs false c = runs_fewer c in omega arith
 
 -- of a dimension by where it stands
 one_by : (which : Builtin) (s : Standing) (d : ℕ) (c : Ops) → runs true c ≤ runs false c
-    → flagged_words (AndOp (Id d which (operand_at s d)) c) + 1 ≤ 38 + 32 * looked_for s + flagged_words c
-one_by which (Fixed n) d c r = omega arith
+    → flagged_words (AndOp (Id d which (operand_at s d)) c) + 1 ≤ 38 + flagged_words c
+one_by which (Fixed zero) d c r = omega arith
+one_by which (Fixed (suc n)) d c r = omega arith
 one_by which (Named k) d c r = omega arith
 one_by which Made d c r = omega arith
 
 -- with the variables that it uses
 pub one_adds : (which : Builtin) (unsigned : Bool) (s : Standing) (d : ℕ) (c : Ops)
-    → flagged_words (one_ops which unsigned (operand_at s d) d c) + one_room which ≤ 38 + 32 * dimension which s + flagged_words c
+    → flagged_words (one_ops which unsigned (operand_at s d) d c) + one_room which ≤ 38 + flagged_words c
 one_adds builtin.Abs unsigned s d c =
     let h : flagged_words (one_ops builtin.Abs unsigned (operand_at s d) d c) ≤ 24 + flagged_words c =
     magnitude_most unsigned (operand_at s d) d c (operand_most (operand_at s d)) (runs_fewer c) in omega arith

@@ -3,7 +3,8 @@ use Rattle.std.proofs.Common.{ℕ, ◌<◌, ◌^◌, List}
 use Rattle.ocl_ast.specs.declared.units.Param.{Param}
 use Rattle.ocl_program.specs.declared.functions.LocalArray.{LocalArray}
 use Rattle.ocl_inline.specs.Trees.{FlatValue, NoFlat, SomeFlat, FlatExpr, NumberFlat, VariableFlat, UnaryFlat, BinaryFlat, BothFlat, EitherFlat, ChooseFlat, CastFlat, LoadFlat, CallFlat, LostFlat, BuiltinFlat, ParenFlat, FlatArgs, NoFlatArgs, NumberArg, NamedArg, FlatStmt, DeclareFlat, LocalArrayFlat, SetVariableFlat, SetElementFlat, CallStmtFlat, BarrierFlat, IfFlat, IfElseFlat, WhileFlat, DoFlat, ForFlat, BreakFlat, ContinueFlat, ReturnFlat, BlockFlat, EmptyFlat, FlatStmts, NoFlats, AndFlat, FlatKernel}
-use Rattle.ocl_norm.specs.Proper.{AreValues, ArgsWords, ExprWords, HasElem, IsBound, IsProperKernel, IsWritten, StmtWords, StmtsWords, TypedArgs, TypedExpr, TypedStmt, TypedStmts, TypedValue, ValueWords, arity}
+use Rattle.ocl_inline.specs.Proper.{AreValues, ArgsWords, ExprWords, HasElem, IsBound, IsProperKernel, IsWritten, StmtWords, StmtsWords, TypedArgs, TypedExpr, TypedStmt, TypedStmts, TypedValue, ValueWords}
+use Rattle.ocl_types.specs.Exprs.{arity}
 
 abbrev mutual
   pub ProperExpr : List Param → List LocalArray → ℕ → FlatExpr → Type 0

@@ -18,7 +18,6 @@ use Rattle.kir.specs.Weights.{operand_words, test_words}
 use Rattle.ocl_inline.specs.FlatMeasures.{flat_expr_nodes, flat_value_nodes, flat_args_nodes, flat_stmt_nodes, flat_nodes, flat_expr_control, flat_value_control, flat_args_control, flat_stmt_control, flat_control, flat_expr_calls, flat_value_calls, flat_args_calls, flat_stmt_calls, flat_calls}
 use Rattle.ocl_inline.specs.Trees.{FlatValue, NoFlat, SomeFlat, FlatExpr, NumberFlat, VariableFlat, UnaryFlat, BinaryFlat, BothFlat, EitherFlat, ChooseFlat, CastFlat, LoadFlat, CallFlat, LostFlat, BuiltinFlat, ParenFlat, FlatArgs, NoFlatArgs, NumberArg, NamedArg, FlatStmt, DeclareFlat, LocalArrayFlat, SetVariableFlat, SetElementFlat, CallStmtFlat, BarrierFlat, IfFlat, IfElseFlat, WhileFlat, DoFlat, ForFlat, BreakFlat, ContinueFlat, ReturnFlat, BlockFlat, EmptyFlat, FlatStmts, NoFlats, AndFlat, FlatKernel}
 use Rattle.ocl_inline.specs.declared.trees.Binding.{Binding}
-use Rattle.ocl_norm.specs.Dimensions.{dimension, expr_dimensions, args_dimensions, value_dimensions, stmt_dimensions, dimensions}
 use Rattle.ocl_norm.specs.Normal.{Part, calls, right_calls, right_branches, pair_ops, bound_ops, load_ops, store_ops, restore_ops, combined_variable, assigned_variable, changed_element, assigned_element, given_ops, value_ops, builtin_ops, args_ops, right_ops, loop_ops, stmt_ops, stmts_ops, normal_kernel}
 use Rattle.ocl_norm.specs.Operators.{truth_ops, unary_ops, binary_ops, one_ops, two_ops}
 use Rattle.ocl_norm.specs.Rooms.{one_room, two_room, pair_room, assigned_room, value_room, args_room, right_room, stmt_room, stmts_room}
@@ -35,7 +34,7 @@ taken e = value_room e + flat_expr_calls e + 4 * flat_expr_control e
 
 -- what its nodes allow
 abbrev pub allowed : FlatExpr → ℕ
-allowed e = 38 * flat_expr_nodes e + 32 * expr_dimensions e
+allowed e = 38 * flat_expr_nodes e
 
 -- Of what is allowed 16 words are left.
 abbrev pub ExprWords : FlatExpr → Type 0
@@ -123,7 +122,7 @@ abbrev pub stmt_taken : FlatStmt → ℕ
 stmt_taken s = stmt_room s - 1 + flat_stmt_calls s + 4 * flat_stmt_control s
 
 abbrev pub stmt_allowed : FlatStmt → ℕ
-stmt_allowed s = 38 * flat_stmt_nodes s + 32 * stmt_dimensions s
+stmt_allowed s = 38 * flat_stmt_nodes s
 
 abbrev pub StmtWords : FlatStmt → Type 0
 StmtWords s = (d : ℕ) (c : Ops) → flagged_words (stmt_ops s d c) + stmt_taken s ≤ stmt_allowed s + flagged_words c
@@ -132,7 +131,7 @@ abbrev pub stmts_taken : FlatStmts → ℕ
 stmts_taken ss = stmts_room ss - 1 + flat_calls ss + 4 * flat_control ss
 
 abbrev pub stmts_allowed : FlatStmts → ℕ
-stmts_allowed ss = 38 * flat_nodes ss + 32 * dimensions ss
+stmts_allowed ss = 38 * flat_nodes ss
 
 abbrev pub StmtsWords : FlatStmts → Type 0
 StmtsWords ss = (d : ℕ) (c : Ops) → flagged_words (stmts_ops ss d c) + stmts_taken ss ≤ stmts_allowed ss + flagged_words c
@@ -141,7 +140,7 @@ abbrev pub args_taken : FlatArgs → ℕ
 args_taken args = args_room args + flat_args_calls args + 4 * flat_args_control args
 
 abbrev pub args_allowed : FlatArgs → ℕ
-args_allowed args = 38 * flat_args_nodes args + 32 * args_dimensions args
+args_allowed args = 38 * flat_args_nodes args
 
 abbrev pub ArgsWords : FlatArgs → Type 0
 ArgsWords args = (d : ℕ) (c : Ops) → flagged_words (args_ops args d c) + args_taken args ≤ args_allowed args + flagged_words c
@@ -150,7 +149,7 @@ abbrev pub value_taken : FlatValue → ℕ
 value_taken value = right_room value + flat_value_calls value + 4 * flat_value_control value
 
 abbrev pub value_allowed : FlatValue → ℕ
-value_allowed value = 38 * flat_value_nodes value + 32 * value_dimensions value
+value_allowed value = 38 * flat_value_nodes value
 
 -- words that are left of a right side
 abbrev pub spare : FlatValue → ℕ
@@ -300,16 +299,16 @@ mutual
 
   builtin_words : (args : FlatArgs) (which : Builtin) (unsigned : Bool) → ExprWords (BuiltinFlat which unsigned args)
   builtin_words NoFlatArgs which unsigned d c =
-      let h : flagged_words (AndOp (Id d which (NumberOf 0)) c) ≤ 12 + flagged_words c = id_adds which 0 d c in omega arith
+      let h : flagged_words (AndOp (Id d which (NumberOf 0)) c) ≤ 12 + flagged_words c = id_adds which d c in omega arith
   builtin_words (NamedArg array more) which unsigned d c =
-      let h : flagged_words (AndOp (Id d which (NumberOf 0)) c) ≤ 12 + flagged_words c = id_adds which 0 d c in
+      let h : flagged_words (AndOp (Id d which (NumberOf 0)) c) ≤ 12 + flagged_words c = id_adds which d c in
       let k : flat_args_calls more + 4 * flat_args_control more ≤ 5 * flat_args_nodes more = args_few more in omega arith
   builtin_words (NumberArg x b NoFlatArgs) which unsigned d c =
       let v : Ops = one_ops which unsigned (operand_at (standing x) d) d c in
       let h : flagged_words (value_ops x d v) + taken x + 16 ≤ allowed x + flagged_words v = value_words x d v in
-      let k : flagged_words v + one_room which ≤ 38 + 32 * dimension which (standing x) + flagged_words c = one_adds which unsigned (standing x) d c in omega arith
+      let k : flagged_words v + one_room which ≤ 38 + flagged_words c = one_adds which unsigned (standing x) d c in omega arith
   builtin_words (NumberArg x b (NamedArg array more)) which unsigned d c =
-      let h : flagged_words (AndOp (Id d which (NumberOf 0)) c) ≤ 12 + flagged_words c = id_adds which 0 d c in
+      let h : flagged_words (AndOp (Id d which (NumberOf 0)) c) ≤ 12 + flagged_words c = id_adds which d c in
       let j : flat_expr_calls x + 4 * flat_expr_control x ≤ 5 * flat_expr_nodes x = value_few x in
       let k : flat_args_calls more + 4 * flat_args_control more ≤ 5 * flat_args_nodes more = args_few more in omega arith
   builtin_words (NumberArg x b (NumberArg y b' NoFlatArgs)) which unsigned d c =
@@ -318,7 +317,7 @@ mutual
       let k : pair_room (value_room x) (standing x) (value_room y) (calls y) ≤ value_room x + suc (value_room y) = pair_room_most x y in
       let t : two_room which ≤ 3 = two_most which in omega arith
   builtin_words (NumberArg x b (NumberArg y b' (NamedArg array more))) which unsigned d c =
-      let h : flagged_words (AndOp (Id d which (NumberOf 0)) c) ≤ 12 + flagged_words c = id_adds which 0 d c in
+      let h : flagged_words (AndOp (Id d which (NumberOf 0)) c) ≤ 12 + flagged_words c = id_adds which d c in
       let j : flat_expr_calls x + 4 * flat_expr_control x ≤ 5 * flat_expr_nodes x = value_few x in
       let j' : flat_expr_calls y + 4 * flat_expr_control y ≤ 5 * flat_expr_nodes y = value_few y in
       let k : flat_args_calls more + 4 * flat_args_control more ≤ 5 * flat_args_nodes more = args_few more in omega arith
@@ -455,6 +454,6 @@ mutual
 
 -- the words and the variables of the code of a kernel
 pub kernel_words : (flat : FlatKernel) → flagged_words (normal_kernel flat).ops + (stmts_room flat.body - 1 + flat_calls flat.body + 4 * flat_control flat.body)
-    ≤ 38 * flat_nodes flat.body + 32 * dimensions flat.body
+    ≤ 38 * flat_nodes flat.body
 kernel_words flat =
     let h : flagged_words (stmts_ops flat.body flat.variables NoOps) + stmts_taken flat.body ≤ stmts_allowed flat.body + 0 = stmts_words flat.body flat.variables NoOps in omega arith

@@ -1,19 +1,20 @@
 -- Measures of small flat kernels and of their normal forms.
-use Rattle.std.proofs.Common.{◌≡◌, ◌<◌, ◌+◌, ◌*◌, refl, arith, ℕ, zero, suc, true, false, List, [], ◌∷◌}
+use Rattle.std.proofs.Common.{◌≡◌, refl, ℕ, zero, suc, true, false, List, [], ◌∷◌}
 use Rattle.vx_base.specs.declared.types.Elem.TheVariants.{Int}
 use Rattle.ocl_ast.specs.declared.exprs.BinOp.TheVariants as op
 use Rattle.ocl_ast.specs.declared.stmts.AssignOp.TheVariants as assign
 use Rattle.ocl_program.specs.declared.exprs.ArrayRef.TheVariants.{Parameter}
 use Rattle.ocl_program.specs.declared.exprs.Builtin.TheVariants.{GlobalId}
 use Rattle.kir.specs.FlaggedWords.{flagged_words}
+use Rattle.kir.specs.Loops.{loop_nesting}
 use Rattle.kir.specs.Measures.{IsChecked, branching, nesting, sites}
 use Rattle.kir.specs.Numbered.{AreBelow}
 use Rattle.kir.specs.Trees.{Ops, NoOps}
+use Rattle.kir.specs.Typing.{AreTyped}
 use Rattle.ocl_inline.specs.declared.trees.Binding.TheVariants.{Dropped}
 use Rattle.ocl_inline.specs.FlatMeasures.{flat_calls, flat_control, flat_depth, flat_nodes}
 use Rattle.ocl_inline.specs.FlatNumbers.{flat_sites}
 use Rattle.ocl_inline.specs.Trees.{NoFlat, SomeFlat, FlatExpr, BothFlat, CallFlat, BuiltinFlat, NoFlatArgs, NumberArg, FlatStmt, SetVariableFlat, SetElementFlat, CallStmtFlat, BarrierFlat, IfFlat, ForFlat, EmptyFlat, FlatStmts}
-use Rattle.ocl_norm.specs.Dimensions.{dimensions}
 use Rattle.ocl_norm.specs.Normal.{normal_kernel, stmts_ops}
 use Rattle.ocl_norm.specs.Rooms.{stmts_room}
 use Rattle.ocl_norm.proofs.NormalMeasures.{normal_measures}
@@ -55,6 +56,9 @@ two_nested = refl
 two_branches : branching (ops branched) ≡ 2
 two_branches = refl
 
+no_loops : loop_nesting (ops branched) ≡ 0
+no_loops = refl
+
 -- ---- variables: `p[i] += f()` whose helper has such a statement, five calls deep, takes more than one for each call
 
 abbrev added : FlatExpr → FlatStmt
@@ -87,30 +91,27 @@ endless_node = refl
 endless_level : flat_control (items endless) ≡ 1
 endless_level = refl
 
--- a dimension that is computed from another, thirty times: each has one node, and is looked for among all
+-- a dimension that is computed from another, thirty times: each has one node, and takes 28 words
 abbrev of_dimension : ℕ → FlatExpr
 of_dimension zero = x 0
 of_dimension (suc n) = BuiltinFlat GlobalId true (NumberArg (of_dimension n) Dropped NoFlatArgs)
 
-abbrev looked_for : List FlatStmt
-looked_for = SetVariableFlat 1 Int assign.Set false (SomeFlat (of_dimension 30)) ∷ []
+abbrev by_dimension : List FlatStmt
+by_dimension = SetVariableFlat 1 Int assign.Set false (SomeFlat (of_dimension 30)) ∷ []
 
-looked_for_nodes : flat_nodes (items looked_for) ≡ 33
-looked_for_nodes = refl
+by_dimension_nodes : flat_nodes (items by_dimension) ≡ 33
+by_dimension_nodes = refl
 
-looked_for_dimensions : dimensions (items looked_for) ≡ 30
-looked_for_dimensions = refl
+by_dimension_words : flagged_words (ops by_dimension) ≡ 855
+by_dimension_words = refl
 
-looked_for_words : flagged_words (ops looked_for) ≡ 1815
-looked_for_words = refl
-
-too_many_words : 40 * 33 + 256 < 1815
-too_many_words = omega arith
-
--- ---- checks and numbers: those of a proper kernel
+-- ---- checks, types and numbers: those of a proper kernel
 
 kernel_checked : IsChecked (normal_kernel kernel).ops
 kernel_checked = (normal_measures kernel).checked kernel_proper
+
+kernel_typed : AreTyped (normal_kernel kernel).params (normal_kernel kernel).arrays (normal_kernel kernel).ops
+kernel_typed = (normal_measures kernel).typed kernel_proper.typed
 
 kernel_below : AreBelow (normal_kernel kernel).variables (normal_kernel kernel).ops
 kernel_below = (normal_measures kernel).below kernel_proper

@@ -24,7 +24,7 @@ use Rattle.kir.specs.Trees.{Operand, VariableOf, NumberOf, Op, Set, Calculate, F
 use Rattle.ocl_inline.specs.declared.trees.Binding.TheVariants.{Variable as ToVariable, Dropped}
 use Rattle.ocl_inline.specs.FlatItems.{flat_asks, flat_turns}
 use Rattle.ocl_inline.specs.Trees.{NoFlat, SomeFlat, FlatExpr, NumberFlat, VariableFlat, UnaryFlat, BinaryFlat, BothFlat, EitherFlat, ChooseFlat, CastFlat, LoadFlat, CallFlat, BuiltinFlat, ParenFlat, NoFlatArgs, NumberArg, FlatStmt, DeclareFlat, SetVariableFlat, SetElementFlat, BarrierFlat, IfFlat, IfElseFlat, WhileFlat, DoFlat, ForFlat, BreakFlat, ContinueFlat, ReturnFlat, BlockFlat, EmptyFlat, FlatStmts, NoFlats, AndFlat, FlatKernel}
-use Rattle.ocl_norm.specs.Proper.{IsProperKernel}
+use Rattle.ocl_inline.specs.Proper.{IsProperKernel}
 use Rattle.ocl_norm.specs.Normal.{value_ops, stmt_ops, normal_kernel}
 
 abbrev pub here : Pos

@@ -4,7 +4,7 @@ use Rattle.ocl_inline.specs.declared.trees.FlatArgument.{FlatArgument, Array}
 use Rattle.ocl_inline.specs.declared.trees.FlatArgument as argument
 use Rattle.ocl_inline.specs.Shapes.{expr_of}
 use Rattle.ocl_inline.specs.Trees.{FlatStmt}
-use Rattle.ocl_norm.specs.Proper.{ExprWords, StmtWords}
+use Rattle.ocl_inline.specs.Proper.{ExprWords, StmtWords}
 
 -- a count, kept up to the greatest number of its type: whether a sum with it is a word can be told still
 abbrev pub counted : ℕ → ℕ

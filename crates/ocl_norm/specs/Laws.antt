@@ -12,7 +12,7 @@ use Rattle.ocl_inline.specs.FlatTasks.{flat_parts}
 use Rattle.ocl_inline.specs.Trees.{FlatKernel}
 use Rattle.ocl_norm.specs.Normal.{normal_kernel}
 use Rattle.kir.specs.Numbered.{GivesWords}
-use Rattle.ocl_norm.specs.Proper.{IsProperKernel}
+use Rattle.ocl_inline.specs.Proper.{IsProperKernel}
 
 -- What structured code keeps of a flat kernel's actions.
 pub record DoesTheSame (kernel : FlatKernel) (code : KirCode) : Type 0 where

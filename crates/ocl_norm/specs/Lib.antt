@@ -3,11 +3,9 @@ pub mod Operators
 pub mod Occurrences
 pub mod Rooms
 pub mod Normal
-pub mod Proper
 pub mod Views
 pub mod Sizes
 pub mod Arguments
-pub mod Dimensions
 pub mod Laws
 pub mod Kept
 pub mod Counting

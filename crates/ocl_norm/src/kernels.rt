@@ -5,15 +5,15 @@ ghost use Rattle.ocl_inline.specs.Shapes.{kernel_of};
 ghost use Rattle.ocl_norm.specs.Kept.{KeepsMeasures};
 ghost use Rattle.ocl_norm.specs.Laws.{DoesTheSame};
 ghost use Rattle.ocl_norm.specs.Normal.{normal_kernel};
-ghost use Rattle.ocl_norm.specs.Proper.{IsTypedKernel, NumbersAreWords};
+ghost use Rattle.ocl_inline.specs.Proper.{IsTypedKernel, NumbersAreWords};
 
 use crate::rooms::stmts_room;
 use crate::statements::stmts_list;
+use item_settings::copied_params;
 use kir::Kir;
-use ocl_ast::{Ident, Param, ParamList};
 use ocl_inline::trees::Flat;
 use std::alloc::Global;
-use vx_base::{Memory, Text};
+use vx_base::Memory;
 
 /// Whether the numbers of all variables of a flat kernel's normal form are words. The numbers written in it are.
 pub fn fits(flat: &Flat) -> bool
@@ -64,45 +64,4 @@ fn all_variables(flat: &Flat) -> u32
 {
     let more = stmts_room(flat.body.as_slice()) as u32;
     flat.variables + more
-}
-
-/// Parameters once more.
-fn copied_params(alloc: Global, params: &[Param]) -> Result<ParamList, Memory>
-    ensures { IfOk result (λ copy. copy ≡ params.now) }
-{
-    let mut items = Vec::new(alloc);
-    for param in params {
-        match copied_param(alloc, param) {
-            Ok(copy) => match items.push(copy) {
-                Ok(()) => {}
-                Err(_full) => return Err(Memory),
-            },
-            Err(fault) => return Err(fault),
-        }
-    }
-    Ok(ParamList { items })
-}
-
-/// A parameter once more.
-fn copied_param(alloc: Global, param: &Param) -> Result<Param, Memory>
-    ensures { IfOk result (λ copy. copy ≡ param.now) }
-{
-    let name = copied_name(alloc, &param.name)?;
-    Ok(Param {
-        name,
-        kind: param.kind,
-        constant: param.constant,
-    })
-}
-
-/// A name once more.
-fn copied_name(alloc: Global, name: &Ident) -> Result<Ident, Memory>
-    ensures { IfOk result (λ copy. copy ≡ name.now) }
-{
-    let items = name.text.as_slice().to_vec(alloc)?;
-    let text = Text { items };
-    Ok(Ident {
-        text,
-        pos: name.pos,
-    })
 }

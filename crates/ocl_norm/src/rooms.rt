@@ -5,7 +5,7 @@ ghost use Rattle.ocl_inline.specs.Shapes.{expr_of, flat_arguments, flat_trees, s
 ghost use Rattle.ocl_inline.specs.Trees.{CallFlat, ForFlat, if_flat, written};
 ghost use Rattle.ocl_norm.specs.Arguments.{ThreeValues, function_room};
 ghost use Rattle.ocl_norm.specs.Normal.{calls as calls_of, right_calls as right_calls_of};
-ghost use Rattle.ocl_norm.specs.Proper.{ArgsWords, ExprWords, StmtWords, StmtsWords, ValueWords};
+ghost use Rattle.ocl_inline.specs.Proper.{ArgsWords, ExprWords, StmtWords, StmtsWords, ValueWords};
 ghost use Rattle.ocl_norm.specs.Counting.{ArgWords, ElseWords, counted};
 ghost use Rattle.ocl_norm.specs.Rooms.{args_room as args_room_of, assigned_room, builtin_room as builtin_room_of, one_room as one_room_of, pair_room as pair_room_of, right_room as right_room_of, stmt_room as stmt_room_of, stmts_room as stmts_room_of, two_room as two_room_of, value_room as value_room_of};
 ghost use Rattle.ocl_norm.specs.Standings.{Named, above, standing};

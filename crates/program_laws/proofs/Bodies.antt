@@ -19,14 +19,16 @@ use Rattle.ocl_types.specs.Names.{entry_named, is_fixed}
 use Rattle.ocl_types.specs.Stmts.{Place, Standing, innermost, with_entry, typed_stmts}
 use Rattle.ocl_types.specs.Functions.{IsProgram, at_start, with_param, with_params, made_of, typed_function, typed_functions, names_from, bodies_of, within_limits, placed}
 use Rattle.program_laws.proofs.Passing.{passing, ok_is, answered, not_tested}
-use Rattle.program_laws.proofs.Pieces.{none, orders_none, most, AreSmall, Moves, moves_none, moves_both}
+use Rattle.program_laws.proofs.Pieces.{none, named, orders_none, most, AreSmall, Moves, moves_none, moves_both}
 use Rattle.program_laws.proofs.StmtMoves.{entry_behind, declared_is, name_declared, StmtsMove, stmts_move}
 
 -- ---- parameters
 
 -- parameters, of which some are scalars, and what the function has behind them
 record ParamsMove (n : ℕ) (st : Standing) (scalars : ℕ) (behind : Standing) : Type 0 where
-  moves : Moves n st none behind
+  names : List ℕ
+  moves : Moves n st (named names) behind
+  each : length names ≡ scalars
   counted : behind.variables < most → st.variables + scalars ≤ behind.variables
 
 array_named : (n : ℕ) (name : List ℕ) (array : _) (space : _) (elem : _) (readonly : Bool) (st : Standing)
@@ -42,6 +44,7 @@ array_named n name array space elem readonly st = record {
     scopes = λ below. entry_behind st.variables st.scopes name (ArrayBinding array space elem readonly) below tt;
     below = λ below. tt;
   };
+  declared = omega arith;
 }
 
 below_itself : (v bound : ℕ) → v < bound → v < bound
@@ -55,20 +58,25 @@ param_moves : (n k : ℕ) (p : Param) (kind : ParamKind) (st now : Standing) →
 param_moves n k p (Scalar elem) st now h =
     let binding : ℕ → Binding = λ variable. ScalarBinding variable elem p.constant in
     subst (λ (x : Standing). ParamsMove n st 1 x) (declared_is p.name binding st now h)
-    (record { moves = name_declared n p.name binding st below_itself; counted = λ within. omega arith })
+    (record { names = 0 ∷ []; moves = name_declared n p.name binding st 0 below_itself; each = refl; counted = λ within. omega arith })
 param_moves n k p (Pointer space elem readonly) st now h =
     answered (ParamsMove n st 0) (not_tested (is_some (entry_named p.name.text (innermost st.scopes))) _ _ h)
-    (record { moves = array_named n p.name.text (Parameter (cut k)) space elem (is_fixed space readonly) st; counted = λ within. omega arith })
+    (record { names = []; moves = array_named n p.name.text (Parameter (cut k)) space elem (is_fixed space readonly) st; each = refl; counted = λ within. omega arith })
 
 params_move : (n k : ℕ) (st : Standing) (ps : List Param) (now : Standing) → with_params k st ps ≡ Ok now → ParamsMove n st (count_by is_scalar ps) now
-params_move n k st [] now h = answered (ParamsMove n st 0) h (record { moves = moves_none n st; counted = λ within. omega arith })
+params_move n k st [] now h = answered (ParamsMove n st 0) h (record { names = []; moves = moves_none n st; each = refl; counted = λ within. omega arith })
 params_move n k st (p ∷ ps) now h =
     let one = passing (with_param k p p.kind st) h in
     let first : ParamsMove n st (scalars_of p.kind) one.value = param_moves n k p p.kind st one.value one.first in
     let rest : ParamsMove n one.value (count_by is_scalar ps) now = params_move n (k + 1) one.value ps now one.rest in
     let whole : count_by is_scalar (p ∷ ps) ≡ scalars_of p.kind + count_by is_scalar ps = sum_by-cons (λ (x : Param). scalars_of x.kind) p ps in
+    let names : length (first.names ++ rest.names) ≡ length first.names + length rest.names = length-append first.names rest.names in
+    let one_each : length first.names ≡ scalars_of p.kind = first.each in
+    let more_each : length rest.names ≡ count_by is_scalar ps = rest.each in
     record {
+      names = first.names ++ rest.names;
       moves = moves_both first.moves rest.moves;
+      each = omega arith;
       counted = λ within.
           let later : one.value.variables + count_by is_scalar ps ≤ now.variables = rest.counted within in
           let sooner : st.variables + scalars_of p.kind ≤ one.value.variables = first.counted (omega arith) in
@@ -131,6 +139,7 @@ functions_counted functions before (f ∷ more) all h =
 pub record Made (program : List FunctionNode) : Type 0 where
   pub functions : List FunctionTree
   pub base : List FunctionNode
+  pub typed : typed_functions functions [] functions ≡ Ok base
   pub typings : Each (Typing functions) base
   pub counted : length base ≡ length functions
   pub limits : within_limits base ≡ Ok tt
@@ -145,6 +154,7 @@ program_made program p =
     record {
       functions = p.functions;
       base = bodies.value;
+      typed = names.rest;
       typings = functions_typing p.functions [] p.functions bodies.value tt names.rest;
       counted = omega arith;
       limits = within.first;
@@ -173,7 +183,9 @@ based program made k f h =
 
 -- what the parameters and the body of a function do
 pub record Behind (functions : List FunctionTree) (f : FunctionNode) (typing : Typing functions f) : Type 0 where
-  pub params : Moves (length functions) at_start none typing.start
+  pub names : List ℕ
+  pub params : Moves (length functions) at_start (named names) typing.start
+  pub each : length names ≡ count_by is_scalar typing.tree.params
   pub body : StmtsMove (length functions) typing.start typing.made
   pub scalars : typing.start.variables < most → count_by is_scalar typing.tree.params ≤ typing.start.variables
 
@@ -182,7 +194,9 @@ behind_of functions f typing =
     let start : ParamsMove (length functions) at_start (count_by is_scalar typing.tree.params) typing.start = params_move (length functions) 0 at_start typing.tree.params typing.start typing.params in
     let place : Place = record { functions = functions; gives = typing.tree.gives; in_loop = false; outermost = typing.tree.kernel } in
     record {
+      names = start.names;
       params = start.moves;
+      each = start.each;
       body = stmts_move place typing.start [] typing.start typing.tree.body typing.made (moves_none (length functions) typing.start) typing.body;
       scalars = λ within. let all : 0 + count_by is_scalar typing.tree.params ≤ typing.start.variables = start.counted within in omega arith;
     }

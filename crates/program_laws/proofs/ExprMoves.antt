@@ -79,6 +79,7 @@ variable_named n st v below = record {
   sites = orders_none st.sites;
   arrays = orders_none (cut (length st.arrays));
   variables = λ within. record { more = omega arith; scopes = λ h. h; below = λ h. (below within h, tt) };
+  declared = omega arith;
 }
 
 one_more_call : (calls : List ℕ) (k n : ℕ) → cut (length calls) ≡ cut n → cut (length (calls ++ k ∷ [])) ≡ cut (n + 1)
@@ -93,6 +94,7 @@ called n st k within = record {
   sites = orders_none st.sites;
   arrays = orders_none (cut (length st.arrays));
   variables = λ h. record { more = omega arith; scopes = λ below. below; below = λ below. tt };
+  declared = omega arith;
 }
 
 -- ---- parts
@@ -137,7 +139,7 @@ callee_below fs pos UnknownMeaning callee h = cc
 made_moves : (n : ℕ) (st : Standing) (callee : Callee) (sofar : ArgsSofar) → CalleeBelow n callee → ArgsMove n st sofar → CallMoves n st (call_made callee sofar)
 made_moves n st (Helper k params gives) sofar below h =
     let whole : joined (in_args (arg_nodes sofar.args)) (one_call (cut (length sofar.calls))) ≡ in_expr (CallNode (cut (length sofar.calls)) (arg_nodes sofar.args)) =
-    ap (λ (vs : List ℕ). record { calls = args_calls (arg_nodes sofar.args) ++ cut (length sofar.calls) ∷ []; sites = []; variables = vs; arrays = [] }) (append-nil (args_variables (arg_nodes sofar.args))) in
+    ap (λ (vs : List ℕ). record { calls = args_calls (arg_nodes sofar.args) ++ cut (length sofar.calls) ∷ []; sites = []; variables = vs; arrays = []; declared = [] }) (append-nil (args_variables (arg_nodes sofar.args))) in
     moves_as whole (moves_both h (called n (with_calls sofar.calls st) k below))
 made_moves n st (BuiltinCallee b) sofar below h = h
 
@@ -171,11 +173,11 @@ pieces_behind args tail =
     numbers_behind expr_calls args_calls refl (λ e more. refl) (λ a more. refl) args (arg_nodes tail) tail refl in
     let variables : args_variables (arg_nodes (args ++ tail)) ≡ args_variables (arg_nodes args) ++ args_variables (arg_nodes tail) =
     numbers_behind expr_variables args_variables refl (λ e more. refl) (λ a more. refl) args (arg_nodes tail) tail refl in
-    sym (λ i. record { calls = calls i; sites = []; variables = variables i; arrays = [] })
+    sym (λ i. record { calls = calls i; sites = []; variables = variables i; arrays = []; declared = [] })
 
 -- the pieces of one argument
 value_piece : (e : ExprNode) → in_expr e ≡ in_args (arg_nodes (ValueNode e ∷ []))
-value_piece e = sym (λ i. record { calls = append-nil (expr_calls e) i; sites = []; variables = append-nil (expr_variables e) i; arrays = [] })
+value_piece e = sym (λ i. record { calls = append-nil (expr_calls e) i; sites = []; variables = append-nil (expr_variables e) i; arrays = []; declared = [] })
 
 argument_moves : (n : ℕ) (st : Standing) (pos : Pos) (sofar : ArgsSofar) (found : Option FoundArray) (made : Result Typed TypeFault) (next : ArgsSofar) → ArgsMove n st sofar
     → ((t : Typed) → made ≡ Ok t → ExprMoves n (with_calls sofar.calls st) t) → with_argument pos sofar found made ≡ Ok next → ArgsMove n st next

@@ -1,8 +1,8 @@
 -- A function that is small with its calls expanded is formed: the cuts in its typing did nothing.
-use Rattle.std.proofs.Common.{◌≡◌, refl, sym, ap, ◌∙◌, subst, ℕ, zero, suc, ◌+◌, ◌<◌, ◌≤◌, List, [], ◌∷◌, map, length, slice_get, Some, option_map, arith}
+use Rattle.std.proofs.Common.{◌≡◌, refl, sym, ap, ◌∙◌, subst, ℕ, zero, suc, ◌+◌, ◌<◌, ◌≤◌, List, [], ◌∷◌, ◌++◌, map, length, slice_get, Some, option_map, arith}
 use Rattle.std.specs.Prelude.{count_by}
 use Rattle.std.specs.List.{range_with_len}
-use Rattle.std.proofs.lemmas.List.{length-map}
+use Rattle.std.proofs.lemmas.List.{length-append, length-map}
 use Rattle.std.proofs.lemmas.Option.{slice_get-map}
 use Rattle.ocl_ast.specs.Trees.{FunctionTree}
 use Rattle.ocl_program.specs.declared.functions.CallSite.{CallSite}
@@ -11,8 +11,8 @@ use Rattle.ocl_program.specs.Nodes.{FunctionNode, StmtNode, stmt_nodes}
 use Rattle.ocl_sem.specs.Source.{is_scalar}
 use Rattle.ocl_types.specs.Stmts.{Standing}
 use Rattle.ocl_types.specs.Functions.{IsProgram, at_start, bare_call, made_of, placed, sites_from}
-use Rattle.program_laws.specs.Formed.{AreBelow, IsFormed, IsSmall, counted_up, stmts_arrays, stmts_calls, stmts_sites, stmts_variables}
-use Rattle.program_laws.proofs.Pieces.{InOrder, Counts, Moves, in_stmts, most, moves_both}
+use Rattle.program_laws.specs.Formed.{AreBelow, IsFormed, IsSmall, counted_up, stmts_arrays, stmts_calls, stmts_declared, stmts_sites, stmts_variables}
+use Rattle.program_laws.proofs.Pieces.{InOrder, Counts, Moves, in_stmts, joined, most, moves_both, named}
 use Rattle.program_laws.proofs.Bodies.{Typing, Made, program_made, based, behind_of}
 use Rattle.program_laws.proofs.NoRecursion.{placed_callees}
 use Rattle.program_laws.proofs.Settling.{measures_settle}
@@ -69,7 +69,11 @@ made_formed : (program : List FunctionNode) (made : Made program) (node : Functi
     → IsFew (placed made.base (made_of typing.tree typing.made)) → IsFormed program (placed made.base (made_of typing.tree typing.made))
 made_formed program made node typing few =
     let all = behind_of made.functions node typing in
-    let moves : Moves (length made.functions) at_start (in_stmts (stmt_nodes typing.made.0)) typing.made.1 = moves_both all.params all.body in
+    let moves : Moves (length made.functions) at_start (joined (named all.names) (in_stmts (stmt_nodes typing.made.0))) typing.made.1 = moves_both all.params all.body in
+    let names : length (all.names ++ stmts_declared (stmt_nodes typing.made.0)) ≡ length all.names + length (stmts_declared (stmt_nodes typing.made.0)) =
+    length-append all.names (stmts_declared (stmt_nodes typing.made.0)) in
+    let each : length all.names ≡ count_by is_scalar typing.tree.params = all.each in
+    let declared : typing.made.1.variables ≤ 0 + length (all.names ++ stmts_declared (stmt_nodes typing.made.0)) = moves.declared in
     let body : Counts typing.start (stmts_variables (stmt_nodes typing.made.0)) typing.made.1 = all.body.variables few.variables in
     let more : typing.start.variables ≤ typing.made.1.variables = body.more in
     let inside : typing.start.variables < most = omega (arith, few.variables) in
@@ -83,6 +87,7 @@ made_formed program made node typing few =
     record {
       variables = body.below (start.scopes (tt, tt));
       scalars = omega arith;
+      declared = omega arith;
       calls = counted_in_order (stmts_calls (stmt_nodes typing.made.0)) (length typing.made.1.calls) (moves.calls.order [] refl refl) calls_counted few.calls
           ∙ ap (counted_up 0) (sym (made_counted made.base typing.tree typing.made));
       sites = counted_in_order (stmts_sites (stmt_nodes typing.made.0)) typing.made.1.sites (moves.sites.order [] refl refl) (omega arith) few_sites;

@@ -3,7 +3,7 @@ use Rattle.std.proofs.Common.{◌≡◌, refl, sym, ap, ◌∙◌, ℕ, zero, su
 use Rattle.std.proofs.Math.Path.{fun_ext}
 use Rattle.std.proofs.lemmas.List.{length-map}
 use Rattle.std.proofs.lemmas.Option.{slice_get-map}
-use Rattle.ocl_program.specs.Measures.{where_some, expanded, measured, of_function, own_variables, own_sites, own_nodes, stmts_size}
+use Rattle.ocl_program.specs.Measures.{where_some, expanded, greatest, measured, of_function, own_calls, own_control, own_variables, own_sites, own_nodes, stmts_control, stmts_size}
 use Rattle.ocl_program.specs.Nodes.{FunctionNode}
 use Rattle.ocl_types.specs.Functions.{placed}
 use Rattle.program_laws.proofs.NoRecursion.{placed_callees}
@@ -20,6 +20,12 @@ keeps_sites base f inner = ap (λ (ks : List ℕ). f.sites + sum (map inner ks))
 
 pub keeps_nodes : Keeps own_nodes
 keeps_nodes base f inner = ap (λ (ks : List ℕ). stmts_size (λ k. where_some inner (slice_get ks k)) f.body) (placed_callees base f)
+
+pub keeps_control : Keeps own_control
+keeps_control base f inner = ap (λ (ks : List ℕ). stmts_control (λ k. where_some inner (slice_get ks k)) f.body) (placed_callees base f)
+
+pub keeps_calls : Keeps own_calls
+keeps_calls base f inner = ap (λ (ks : List ℕ). greatest (map (λ (callee : ℕ). inner callee + 1) ks)) (placed_callees base f)
 
 one_kept : (own : FunctionNode → (ℕ → ℕ) → ℕ) → Keeps own → (base : List FunctionNode) (inner : ℕ → ℕ) (found : Option FunctionNode)
     → of_function own inner (option_map (placed base) found) ≡ of_function own inner found

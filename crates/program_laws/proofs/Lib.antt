@@ -10,4 +10,5 @@ pub mod Weights
 pub mod Keeping
 pub mod Forming
 pub mod Limits
+pub mod Levels
 pub mod WorkedForms

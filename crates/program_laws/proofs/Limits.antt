@@ -1,21 +1,23 @@
 -- Which functions are small with their calls expanded.
-use Rattle.std.proofs.Common.{◌≡◌, refl, ap, ◌∙◌, subst, ℕ, ◌+◌, ◌<◌, ◌≤◌, nat_lt, Bool, true, false, if◌then◌else◌, List, [], ◌∷◌, map, sum, length, slice_get, Option, None, Some, option_map, arith, sym, suc, zero}
+use Rattle.std.proofs.Common.{◌≡◌, refl, ap, ◌∙◌, subst, ℕ, ◌+◌, ◌<◌, ◌≤◌, nat_lt, Bool, true, false, ◌||◌, if◌then◌else◌, List, [], ◌∷◌, map, sum, length, slice_get, Option, None, Some, option_map, arith, sym, suc, zero}
 use Rattle.std.proofs.lemmas.Bool.{ltb-false}
 use Rattle.std.proofs.lemmas.Option.{slice_get_within, slice_get-map}
 use Rattle.std.specs.List.{range_with_len}
 use Rattle.std.proofs.lemmas.List.{length-map}
 use Rattle.std.proofs.lemmas.List.FromFn.{length-range_with_len}
 use Rattle.std.proofs.lemmas.List.Sums.{sum_by-cons}
+use Rattle.ocl_ast.specs.declared.units.Param.{Param}
 use Rattle.ocl_program.specs.declared.functions.CallSite.{CallSite}
+use Rattle.ocl_program.specs.declared.functions.LocalArray.{LocalArray}
 use Rattle.ocl_program.specs.Measures.{where_some, at_call, callees, measured, own_calls, own_control, own_nodes, own_variables, expanded, of_function, own_sites}
 use Rattle.ocl_program.specs.Nodes.{FunctionNode}
 use Rattle.ocl_types.specs.declared.faults.TypeFault.{TypeFault}
-use Rattle.ocl_types.specs.Functions.{IsProgram, kernel_fault, most_nodes, most_variables, most_arrays, size_fault, sized_fault}
-use Rattle.program_laws.specs.Formed.{IsSmall, counted_up, stmts_calls, stmts_sites}
+use Rattle.ocl_types.specs.Functions.{IsProgram, kernel_fault, most_arrays, most_calls, most_control, most_nodes, most_params, most_variables, params_fault, size_fault, sized_fault}
+use Rattle.program_laws.specs.Formed.{IsShallow, IsSmall, counted_up, stmts_calls, stmts_sites}
 use Rattle.program_laws.proofs.NoRecursion.{each_passes, limits_of}
 use Rattle.program_laws.proofs.Bodies.{program_made, based}
 use Rattle.program_laws.proofs.Settling.{measures_settle}
-use Rattle.program_laws.proofs.Keeping.{keeps_nodes, keeps_variables, measured_kept}
+use Rattle.program_laws.proofs.Keeping.{keeps_calls, keeps_control, keeps_nodes, keeps_variables, measured_kept}
 use Rattle.program_laws.proofs.Weights.{weight, body_load, part_of_sum, part_of_weight}
 use Rattle.program_laws.proofs.Forming.{small_formed}
 
@@ -29,30 +31,80 @@ faults_passed : (test : Bool) (fault : TypeFault) (rest : Option TypeFault) → 
 faults_passed true fault rest h = cc
 faults_passed false fault rest h = record { here = refl; more = h }
 
-sized_small : (f : FunctionNode) (variables nodes control calls : ℕ) → sized_fault f variables nodes control calls ≡ None → (variables ≤ 256) × (nodes ≤ 16384)
-sized_small f variables nodes control calls h =
+either_passed : (one other : Bool) → (one || other) ≡ false → (one ≡ false) × (other ≡ false)
+either_passed true other h = cc
+either_passed false other h = (refl, h)
+
+-- what a kernel passes, before its calls are placed
+record IsSized (f : FunctionNode) (variables nodes control calls : ℕ) : Type 0 where
+  variables_few : variables ≤ 256
+  arrays_few : length f.arrays ≤ 16
+  nodes_few : nodes ≤ 16384
+  control_few : control ≤ 30
+  calls_few : calls ≤ 31
+
+sized_passed : (f : FunctionNode) (variables nodes control calls : ℕ) → sized_fault f variables nodes control calls ≡ None → IsSized f variables nodes control calls
+sized_passed f variables nodes control calls h =
     let one = faults_passed (nat_lt most_variables variables) _ _ h in
     let two = faults_passed (nat_lt most_arrays (length f.arrays)) _ _ one.more in
     let three = faults_passed (nat_lt most_nodes nodes) _ _ two.more in
-    (ltb-false 256 variables one.here, ltb-false 16384 nodes three.here)
+    let four = faults_passed (nat_lt most_control control || nat_lt most_calls calls) _ _ three.more in
+    let nested = either_passed (nat_lt most_control control) (nat_lt most_calls calls) four.here in
+    record {
+      variables_few = ltb-false 256 variables one.here;
+      arrays_few = ltb-false 16 (length f.arrays) two.here;
+      nodes_few = ltb-false 16384 nodes three.here;
+      control_few = ltb-false 30 control nested.0;
+      calls_few = ltb-false 31 calls nested.1;
+    }
 
-kernel_small : (base : List FunctionNode) (k : ℕ) (f : FunctionNode) (kernel : Bool) → (if kernel then size_fault base k f else None) ≡ None → kernel ≡ true
-    → (measured own_variables base k ≤ 256) × (measured own_nodes base k ≤ 16384)
-kernel_small base k f true h is = sized_small f (measured own_variables base k) (measured own_nodes base k) (measured own_control base k) (measured own_calls base k) h
-kernel_small base k f false h is = cc
+abbrev IsSizedBy : List FunctionNode → ℕ → FunctionNode → Type 0
+IsSizedBy base k f = IsSized f (measured own_variables base k) (measured own_nodes base k) (measured own_control base k) (measured own_calls base k)
 
-pub kernels_small : (program : List FunctionNode) → IsProgram program → (k : ℕ) (f : FunctionNode) → slice_get program k ≡ Some f → f.kernel ≡ true → IsSmall program k
-kernels_small program p k f at kernel =
+kernel_passed : (base : List FunctionNode) (k : ℕ) (f : FunctionNode) (kernel : Bool) → (if kernel then size_fault base k f else None) ≡ None → kernel ≡ true → IsSizedBy base k f
+kernel_passed base k f true h is = sized_passed f (measured own_variables base k) (measured own_nodes base k) (measured own_control base k) (measured own_calls base k) h
+kernel_passed base k f false h is = cc
+
+-- a kernel of a program is within the limits
+kernel_sized : (program : List FunctionNode) → IsProgram program → (k : ℕ) (f : FunctionNode) → slice_get program k ≡ Some f → f.kernel ≡ true → IsSizedBy program k f
+kernel_sized program p k f at kernel =
     let made = program_made program p in
     let b = based program made k f at in
     let number : 0 + k ≡ k = omega arith in
     let passed : kernel_fault made.base (0 + k) b.node ≡ None = each_passes (kernel_fault made.base) 0 made.base k b.node (limits_of made.base made.limits).kernels b.at in
     let here : kernel_fault made.base k b.node ≡ None = subst (λ (x : ℕ). kernel_fault made.base x b.node ≡ None) number passed in
     let is : b.node.kernel ≡ true = ap (λ (x : FunctionNode). x.kernel) b.is ∙ kernel in
-    let small = kernel_small made.base k b.node b.node.kernel here is in (
-      subst (λ (measure : ℕ → ℕ). measure k ≤ 256) (measured_kept own_variables keeps_variables program made) small.0,
-      subst (λ (measure : ℕ → ℕ). measure k ≤ 16384) (measured_kept own_nodes keeps_nodes program made) small.1,
-    )
+    let sized : IsSizedBy made.base k b.node = kernel_passed made.base k b.node b.node.kernel here is in
+    let same : b.node.arrays ≡ f.arrays = ap (λ (x : FunctionNode). x.arrays) b.is in
+    record {
+      variables_few = subst (λ (measure : ℕ → ℕ). measure k ≤ 256) (measured_kept own_variables keeps_variables program made) sized.variables_few;
+      arrays_few = subst (λ (arrays : List LocalArray). length arrays ≤ 16) same sized.arrays_few;
+      nodes_few = subst (λ (measure : ℕ → ℕ). measure k ≤ 16384) (measured_kept own_nodes keeps_nodes program made) sized.nodes_few;
+      control_few = subst (λ (measure : ℕ → ℕ). measure k ≤ 30) (measured_kept own_control keeps_control program made) sized.control_few;
+      calls_few = subst (λ (measure : ℕ → ℕ). measure k ≤ 31) (measured_kept own_calls keeps_calls program made) sized.calls_few;
+    }
+
+pub kernels_small : (program : List FunctionNode) → IsProgram program → (k : ℕ) (f : FunctionNode) → slice_get program k ≡ Some f → f.kernel ≡ true → IsSmall program k
+kernels_small program p k f at kernel = let sized = kernel_sized program p k f at kernel in (sized.variables_few, sized.nodes_few)
+
+pub kernels_shallow : (program : List FunctionNode) → IsProgram program → (k : ℕ) (f : FunctionNode) → slice_get program k ≡ Some f → f.kernel ≡ true → IsShallow program k
+kernels_shallow program p k f at kernel = let sized = kernel_sized program p k f at kernel in (sized.control_few, sized.calls_few)
+
+pub kernel_arrays_few : (program : List FunctionNode) → IsProgram program → (k : ℕ) (f : FunctionNode) → slice_get program k ≡ Some f → f.kernel ≡ true → length f.arrays ≤ 16
+kernel_arrays_few program p k f at kernel = (kernel_sized program p k f at kernel).arrays_few
+
+-- ---- parameters
+
+few_of : (n : ℕ) (fault : TypeFault) → (if nat_lt most_params n then Some fault else None) ≡ None → n ≤ 16
+few_of n fault h = ltb-false 16 n (faults_passed (nat_lt most_params n) fault None h).here
+
+pub params_few : (program : List FunctionNode) → IsProgram program → (k : ℕ) (f : FunctionNode) → slice_get program k ≡ Some f → length f.params ≤ 16
+params_few program p k f at =
+    let made = program_made program p in
+    let b = based program made k f at in
+    let few : length b.node.params ≤ 16 = few_of (length b.node.params) _ (each_passes params_fault 0 made.base k b.node (limits_of made.base made.limits).params b.at) in
+    let same : b.node.params ≡ f.params = ap (λ (x : FunctionNode). x.params) b.is in
+    subst (λ (params : List Param). length params ≤ 16) same few
 
 -- ---- callees
 
@@ -83,7 +135,7 @@ found_small program p k i f callee small at None e there = cc
 found_small program p k i f callee small at (Some site) e there =
     let same : site.callee ≡ callee = cc in subst (IsSmall program) same (callees_small program p k i f site small at e)
 
-callee_small : (program : List FunctionNode) → IsProgram program → (k i : ℕ) (f : FunctionNode) (callee : ℕ) → IsSmall program k → slice_get program k ≡ Some f
+pub callee_small : (program : List FunctionNode) → IsProgram program → (k i : ℕ) (f : FunctionNode) (callee : ℕ) → IsSmall program k → slice_get program k ≡ Some f
     → slice_get (callees f) i ≡ Some callee → IsSmall program callee
 callee_small program p k i f callee small at there =
     found_small program p k i f callee small at (slice_get f.calls i) refl (sym (slice_get-map (λ (c : CallSite). c.callee) f.calls i) ∙ there)

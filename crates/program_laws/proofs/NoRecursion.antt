@@ -38,13 +38,14 @@ each_passes fault j (g ∷ more) (suc k) f h e =
 -- the limits of a program
 pub record Limits (program : List FunctionNode) : Type 0 where
   pub recursion : each_from (recursion_of program) 0 program ≡ Ok tt
+  pub params : each_from params_fault 0 program ≡ Ok tt
   pub kernels : each_from (kernel_fault program) 0 program ≡ Ok tt
 
 pub limits_of : (program : List FunctionNode) → within_limits program ≡ Ok tt → Limits program
 limits_of program h =
     let recursion = passing (each_from (recursion_of program) 0 program) h in
     let params = passing (each_from params_fault 0 program) recursion.rest in
-    record { recursion = recursion.first; kernels = params.rest }
+    record { recursion = recursion.first; params = params.first; kernels = params.rest }
 
 not_recursive : (k : ℕ) (f : FunctionNode) (test : Bool) → (if test then Some (Recursive f.name.pos) else None) ≡ None → test ≡ false
 not_recursive k f true h = cc

@@ -10,47 +10,51 @@ use Rattle.ocl_types.specs.declared.names.Binding.{Binding}
 use Rattle.ocl_types.specs.declared.names.Binding.TheVariants.{Scalar as ScalarBinding, Array as ArrayBinding}
 use Rattle.ocl_types.specs.Names.{Scope}
 use Rattle.ocl_types.specs.Stmts.{Standing}
-use Rattle.program_laws.specs.Formed.{AreBelow, where_written, expr_calls, args_calls, stmt_calls, stmts_calls, stmt_sites, stmts_sites, expr_variables, args_variables, stmt_variables, stmts_variables, stmt_arrays, stmts_arrays}
+use Rattle.program_laws.specs.Formed.{AreBelow, where_written, expr_calls, args_calls, stmt_calls, stmts_calls, stmt_sites, stmts_sites, expr_variables, args_variables, stmt_variables, stmts_variables, stmt_arrays, stmts_arrays, stmt_declared, stmts_declared}
 
--- the numbers in a part of a body
+-- the numbers in a part of a body, and what is declared there
 pub record Pieces : Type 0 where
   pub calls : List ℕ
   pub sites : List ℕ
   pub variables : List ℕ
   pub arrays : List ℕ
+  pub declared : List ℕ
 
 abbrev pub none : Pieces
-none = record { calls = []; sites = []; variables = []; arrays = [] }
+none = record { calls = []; sites = []; variables = []; arrays = []; declared = [] }
 
 abbrev pub joined : Pieces → Pieces → Pieces
-joined p q = record { calls = p.calls ++ q.calls; sites = p.sites ++ q.sites; variables = p.variables ++ q.variables; arrays = p.arrays ++ q.arrays }
+joined p q = record { calls = p.calls ++ q.calls; sites = p.sites ++ q.sites; variables = p.variables ++ q.variables; arrays = p.arrays ++ q.arrays; declared = p.declared ++ q.declared }
 
 abbrev pub one_variable : ℕ → Pieces
-one_variable v = record { calls = []; sites = []; variables = v ∷ []; arrays = [] }
+one_variable v = record { calls = []; sites = []; variables = v ∷ []; arrays = []; declared = [] }
 
 abbrev pub one_call : ℕ → Pieces
-one_call k = record { calls = k ∷ []; sites = []; variables = []; arrays = [] }
+one_call k = record { calls = k ∷ []; sites = []; variables = []; arrays = []; declared = [] }
 
 abbrev pub one_site : ℕ → Pieces
-one_site k = record { calls = []; sites = k ∷ []; variables = []; arrays = [] }
+one_site k = record { calls = []; sites = k ∷ []; variables = []; arrays = []; declared = [] }
 
 abbrev pub one_array : ℕ → Pieces
-one_array k = record { calls = []; sites = []; variables = []; arrays = k ∷ [] }
+one_array k = record { calls = []; sites = []; variables = []; arrays = k ∷ []; declared = [] }
+
+abbrev pub named : List ℕ → Pieces
+named ns = record { calls = []; sites = []; variables = []; arrays = []; declared = ns }
 
 abbrev pub in_expr : ExprNode → Pieces
-in_expr e = record { calls = expr_calls e; sites = []; variables = expr_variables e; arrays = [] }
+in_expr e = record { calls = expr_calls e; sites = []; variables = expr_variables e; arrays = []; declared = [] }
 
 abbrev pub in_args : ArgNodes → Pieces
-in_args args = record { calls = args_calls args; sites = []; variables = args_variables args; arrays = [] }
+in_args args = record { calls = args_calls args; sites = []; variables = args_variables args; arrays = []; declared = [] }
 
 abbrev pub in_option : Option ExprNode → Pieces
-in_option value = record { calls = where_written expr_calls value; sites = []; variables = where_written expr_variables value; arrays = [] }
+in_option value = record { calls = where_written expr_calls value; sites = []; variables = where_written expr_variables value; arrays = []; declared = [] }
 
 abbrev pub in_stmt : StmtNode → Pieces
-in_stmt s = record { calls = stmt_calls s; sites = stmt_sites s; variables = stmt_variables s; arrays = stmt_arrays s }
+in_stmt s = record { calls = stmt_calls s; sites = stmt_sites s; variables = stmt_variables s; arrays = stmt_arrays s; declared = stmt_declared s }
 
 abbrev pub in_stmts : StmtNodes → Pieces
-in_stmts ss = record { calls = stmts_calls ss; sites = stmts_sites ss; variables = stmts_variables ss; arrays = stmts_arrays ss }
+in_stmts ss = record { calls = stmts_calls ss; sites = stmts_sites ss; variables = stmts_variables ss; arrays = stmts_arrays ss; declared = stmts_declared ss }
 
 -- ---- numbers that are less
 
@@ -146,6 +150,7 @@ pub record Moves (n : ℕ) (st : Standing) (p : Pieces) (behind : Standing) : Ty
   pub sites : Orders st.sites p.sites behind.sites
   pub arrays : Orders (cut (length st.arrays)) p.arrays (cut (length behind.arrays))
   pub variables : behind.variables < most → Counts st p.variables behind
+  pub declared : behind.variables ≤ st.variables + length p.declared
 
 pub moves_none : (n : ℕ) (st : Standing) → Moves n st none st
 moves_none n st = record {
@@ -155,6 +160,7 @@ moves_none n st = record {
   sites = orders_none st.sites;
   arrays = orders_none (cut (length st.arrays));
   variables = λ h. record { more = omega arith; scopes = λ below. below; below = λ below. tt };
+  declared = omega arith;
 }
 
 counts_both : {st middle behind : Standing} (ns ms : List ℕ) → (middle.variables < most → Counts st ns middle) → Counts middle ms behind → behind.variables < most → Counts st (ns ++ ms) behind
@@ -169,13 +175,14 @@ counts_both {st = st} {middle = middle} {behind = behind} ns ms h k within =
     }
 
 pub moves_both : {n : ℕ} {st middle behind : Standing} {p q : Pieces} → Moves n st p middle → Moves n middle q behind → Moves n st (joined p q) behind
-moves_both {p = p} {q = q} h k = record {
+moves_both {p = p} {q = q} h k = let whole : length (p.declared ++ q.declared) ≡ length p.declared + length q.declared = length-append p.declared q.declared in record {
   small = λ small. k.small (h.small small);
   callees = λ below. k.callees (h.callees below);
   calls = orders_both p.calls q.calls h.calls k.calls;
   sites = orders_both p.sites q.sites h.sites k.sites;
   arrays = orders_both p.arrays q.arrays h.arrays k.arrays;
   variables = λ within. counts_both p.variables q.variables h.variables (k.variables within) within;
+  declared = omega (arith, h.declared, k.declared);
 }
 
 pub moves_as : {n : ℕ} {st behind : Standing} {p q : Pieces} → p ≡ q → Moves n st p behind → Moves n st q behind

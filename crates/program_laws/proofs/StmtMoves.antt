@@ -17,9 +17,9 @@ use Rattle.ocl_types.specs.declared.names.Meaning.TheVariants.{Bound, Function, 
 use Rattle.ocl_types.specs.Names.{Scope, entry_named, meaning_of}
 use Rattle.ocl_types.specs.Exprs.{Typed, MaybeTyped, typed, typed_call, typed_option}
 use Rattle.ocl_types.specs.Stmts.{Place, Standing, innermost, outer_scopes, with_entry, declared, one_more, declared_variable, opened, closed, with_calls, is_count, count_value, most_elements, typed_count, Changed, Variable, Element, TypedTarget, assigned_name, assigned_array, typed_target, change_node, jump_in, returned, inner, in_turn, expr_in, option_in, typed_stmt, typed_stmts}
-use Rattle.program_laws.specs.Formed.{expr_calls, expr_variables, stmt_calls, stmts_calls, stmt_sites, stmts_sites, stmt_variables, stmts_variables, stmt_arrays, stmts_arrays}
+use Rattle.program_laws.specs.Formed.{expr_calls, expr_variables, stmt_calls, stmts_calls, stmt_sites, stmts_sites, stmt_variables, stmts_variables, stmt_arrays, stmts_arrays, stmt_declared, stmts_declared}
 use Rattle.program_laws.proofs.Passing.{passing, ok_is, answered, tested, not_tested, test_held}
-use Rattle.program_laws.proofs.Pieces.{Pieces, none, joined, one_variable, one_site, one_array, in_expr, in_option, in_stmt, in_stmts, IsBelow, ScopeBelow, ScopesBelow, scopes_more, orders_none, orders_one, AreSmall, Moves, moves_none, moves_both, moves_as}
+use Rattle.program_laws.proofs.Pieces.{Pieces, none, joined, one_variable, one_site, one_array, named, in_expr, in_option, in_stmt, in_stmts, IsBelow, ScopeBelow, ScopesBelow, scopes_more, orders_none, orders_one, AreSmall, Moves, moves_none, moves_both, moves_as}
 use Rattle.program_laws.proofs.ExprMoves.{MeaningBelow, meaning_below, variable_named, expr_moves, call_moves, option_moves}
 
 -- ---- scopes
@@ -44,6 +44,7 @@ moves_opened h = record {
   sites = h.sites;
   arrays = h.arrays;
   variables = λ within. let counts = h.variables within in record { more = counts.more; scopes = λ below. counts.scopes (tt, below); below = λ below. counts.below (tt, below) };
+  declared = h.declared;
 }
 
 pub moves_closed : {n : ℕ} {st behind : Standing} {p : Pieces} → Moves n st p behind → Moves n st p (closed behind)
@@ -55,6 +56,7 @@ moves_closed {behind = behind} h = record {
   arrays = h.arrays;
   variables = λ within. let counts = h.variables within in
       record { more = counts.more; scopes = λ below. outer_below behind.variables behind.scopes (counts.scopes below); below = counts.below };
+  declared = h.declared;
 }
 
 -- ---- names that are declared
@@ -67,8 +69,9 @@ declared_is name binding st now h =
     let e = passing (declared name (binding st.variables) st) h in
     ap (λ (x : Standing). record x { variables = one_more x.variables }) (ok_is (not_tested (is_some (entry_named name.text (innermost st.scopes))) _ _ e.first)) ∙ ok_is e.rest
 
-pub name_declared : (n : ℕ) (name : Ident) (binding : ℕ → Binding) (st : Standing) → ((v bound : ℕ) → v < bound → IsBelow bound (binding v)) → Moves n st none (with_name name binding st)
-name_declared n name binding st is_below = record {
+pub name_declared : (n : ℕ) (name : Ident) (binding : ℕ → Binding) (st : Standing) (number : ℕ) → ((v bound : ℕ) → v < bound → IsBelow bound (binding v))
+    → Moves n st (named (number ∷ [])) (with_name name binding st)
+name_declared n name binding st number is_below = record {
   small = λ h. h;
   callees = λ h. h;
   calls = orders_none (cut (length st.calls));
@@ -79,6 +82,7 @@ name_declared n name binding st is_below = record {
     scopes = λ below. entry_behind (one_more st.variables) st.scopes name.text (binding st.variables) (scopes_more st.scopes (omega arith) below) (is_below st.variables (one_more st.variables) (omega arith));
     below = λ below. tt;
   };
+  declared = omega arith;
 }
 
 -- ---- arrays
@@ -98,6 +102,7 @@ array_declared n st a least greatest = record {
   sites = orders_none st.sites;
   arrays = orders_one (cut (length st.arrays)) (cut (length (st.arrays ++ a ∷ []))) (one_more_array st.arrays a);
   variables = λ h. record { more = omega arith; scopes = λ below. below; below = λ below. tt };
+  declared = omega arith;
 }
 
 -- ---- barriers
@@ -110,6 +115,7 @@ site_made n st = record {
   sites = orders_one st.sites (one_more st.sites) (λ k is. omega arith);
   arrays = orders_none (cut (length st.arrays));
   variables = λ h. record { more = omega arith; scopes = λ below. below; below = λ below. tt };
+  declared = omega arith;
 }
 
 -- ---- counts
@@ -151,12 +157,12 @@ count_plain fs ss calls (ParenTree part pos) t is h =
     let p = passing (typed fs ss calls part) h in answered (λ (x : Typed). in_expr x.expr ≡ none) p.rest (count_plain fs ss calls part p.value is p.first)
 
 -- a count that is accepted
-record IsSized (c : ExprNode) : Type 0 where
+pub record IsSized (c : ExprNode) : Type 0 where
   pub plain : in_expr c ≡ none
   pub least : 1 ≤ count_value c
   pub greatest : count_value c ≤ 262144
 
-count_sized : (place : Place) (pos : Pos) (count : ExprTree) (c : ExprNode) → typed_count place pos count ≡ Ok c → IsSized c
+pub count_sized : (place : Place) (pos : Pos) (count : ExprTree) (c : ExprNode) → typed_count place pos count ≡ Ok c → IsSized c
 count_sized place pos count c h =
     let t = passing (typed place.functions [] [] count) (tested (is_count count) _ _ h) in
     let fits : place.outermost && (nat_le 1 (count_value t.value.expr) && nat_le (count_value t.value.expr) most_elements) ≡ true =
@@ -211,7 +217,8 @@ stmts_behind before s =
     let sites = numbers_behind stmt_sites stmts_sites refl (λ s ss. refl) before s in
     let variables = numbers_behind stmt_variables stmts_variables refl (λ s ss. refl) before s in
     let arrays = numbers_behind stmt_arrays stmts_arrays refl (λ s ss. refl) before s in
-    λ i. record { calls = calls i; sites = sites i; variables = variables i; arrays = arrays i }
+    let declared = numbers_behind stmt_declared stmts_declared refl (λ s ss. refl) before s in
+    λ i. record { calls = calls i; sites = sites i; variables = variables i; arrays = arrays i; declared = declared i }
 
 abbrev pub StmtMoves : ℕ → Standing → StmtNode × Standing → Type 0
 StmtMoves n st d = Moves n st (in_stmt d.0) d.1
@@ -234,7 +241,7 @@ declare_moves place st elem constant name value d h =
     let same : made ≡ now.value = declared_is name (λ variable. ScalarBinding variable elem constant) st now.value now.first in
     answered (StmtMoves (length place.functions) st) v.rest
     (subst (λ (x : Standing). typed_option place.functions x.scopes x.calls value ≡ Ok v.value → Moves (length place.functions) st (in_stmt (DeclareNode st.variables elem v.value.expr)) (with_calls v.value.calls x)) same
-    (λ typing. moves_both (name_declared (length place.functions) name (λ variable. ScalarBinding variable elem constant) st is_scalar)
+    (λ typing. moves_both (name_declared (length place.functions) name (λ variable. ScalarBinding variable elem constant) st st.variables is_scalar)
     (moves_both (variable_named (length place.functions) made st.variables (λ within below. omega arith)) (option_moves place.functions made value v.value typing)))
     v.first)
 
@@ -246,11 +253,11 @@ array_moves place st elem name count d h =
     let c = passing (typed_count place name.pos count) now.rest in
     let sized = count_sized place name.pos count c.value c.first in
     let added : LocalArray = record { elem = elem; count = count_value c.value } in
-    let plain : joined none (one_array (cut (length st.arrays))) ≡ in_stmt (LocalArrayNode (cut (length st.arrays)) c.value) =
-    sym (λ i. record { calls = (sized.plain i).calls; sites = []; variables = (sized.plain i).variables; arrays = cut (length st.arrays) ∷ [] }) in
+    let plain : joined (named (cut (length st.arrays) ∷ [])) (one_array (cut (length st.arrays))) ≡ in_stmt (LocalArrayNode (cut (length st.arrays)) c.value) =
+    sym (λ i. record { calls = (sized.plain i).calls; sites = []; variables = (sized.plain i).variables; arrays = cut (length st.arrays) ∷ []; declared = cut (length st.arrays) ∷ [] }) in
     answered (StmtMoves (length place.functions) st) c.rest
     (subst (λ (x : Standing). Moves (length place.functions) st (in_stmt (LocalArrayNode (cut (length st.arrays)) c.value)) (record x { arrays = x.arrays ++ added ∷ [] })) (declared_is name binding st now.value now.first)
-    (moves_as plain (moves_both (name_declared (length place.functions) name binding st (λ v bound h. tt)) (array_declared (length place.functions) (with_name name binding st) added sized.least sized.greatest))))
+    (moves_as plain (moves_both (name_declared (length place.functions) name binding st (cut (length st.arrays)) (λ v bound h. tt)) (array_declared (length place.functions) (with_name name binding st) added sized.least sized.greatest))))
 
 -- ---- statements
 
@@ -283,7 +290,7 @@ mutual
   stmt_moves place st (DoTree body test) d h =
       let b = passing (typed_stmt (in_turn place) st body) h in let t = passing (expr_in place b.value.1 test) b.rest in
       let plain : joined (in_stmt b.value.0) (in_expr t.value.expr) ≡ in_stmt (DoNode b.value.0 t.value.expr) =
-      λ i. record { calls = stmt_calls b.value.0 ++ expr_calls t.value.expr; sites = append-nil (stmt_sites b.value.0) i; variables = stmt_variables b.value.0 ++ expr_variables t.value.expr; arrays = append-nil (stmt_arrays b.value.0) i } in
+      λ i. record { calls = stmt_calls b.value.0 ++ expr_calls t.value.expr; sites = append-nil (stmt_sites b.value.0) i; variables = stmt_variables b.value.0 ++ expr_variables t.value.expr; arrays = append-nil (stmt_arrays b.value.0) i; declared = append-nil (stmt_declared b.value.0) i } in
       answered (StmtMoves (length place.functions) st) t.rest
       (moves_as plain (moves_both (stmt_moves (in_turn place) st body b.value b.first) (expr_moves place.functions b.value.1 test t.value t.first)))
   stmt_moves place st (ForTree first test step body) d h =

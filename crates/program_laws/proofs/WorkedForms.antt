@@ -3,7 +3,7 @@ use Rattle.std.proofs.Common.{◌≡◌, refl, false, [], ◌∷◌, Some}
 use Rattle.vx_base.specs.declared.types.Elem.TheVariants.{Int}
 use Rattle.ocl_ast.specs.declared.exprs.BinOp.TheVariants.{Add}
 use Rattle.ocl_program.specs.Nodes.{NumberNode, VariableNode, BinaryNode, CallNode, NoArgs, ValueArg, StmtNodes, NoStmts, AndStmt, DeclareNode, BarrierNode, WhileNode, BlockNode, CallStmtNode}
-use Rattle.program_laws.specs.Formed.{stmts_arrays, stmts_calls, stmts_sites, stmts_variables}
+use Rattle.program_laws.specs.Formed.{stmts_arrays, stmts_calls, stmts_declared, stmts_sites, stmts_variables}
 
 -- `int x = f(g(y)) + g(1); while (x) { barrier(..); f(x); } barrier(..);`
 body : StmtNodes
@@ -31,3 +31,7 @@ variables_in_order = refl
 no_arrays : stmts_arrays body ≡ []
 unfolding body
 no_arrays = refl
+
+one_declared : stmts_declared body ≡ 1 ∷ []
+unfolding body
+one_declared = refl

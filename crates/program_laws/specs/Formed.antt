@@ -1,8 +1,8 @@
 -- What stands in the body of a function, in the order of the text, and what the functions of a program have in common.
-use Rattle.std.specs.Prelude.{◌≡◌, ℕ, ◌<◌, ◌≤◌, List, [], ◌∷◌, ◌++◌, length, count_by, slice_get, Option, None, Some}
+use Rattle.std.specs.Prelude.{◌≡◌, ℕ, ◌+◌, ◌<◌, ◌≤◌, List, [], ◌∷◌, ◌++◌, length, count_by, slice_get, Option, None, Some}
 use Rattle.std.specs.List.{range_with_len}
 use Rattle.ocl_program.specs.declared.functions.CallSite.{CallSite}
-use Rattle.ocl_program.specs.Measures.{callees, measured, own_nodes, own_sites, own_variables}
+use Rattle.ocl_program.specs.Measures.{callees, measured, own_calls, own_control, own_nodes, own_sites, own_variables}
 use Rattle.ocl_program.specs.Nodes.{ExprNode, NumberNode, VariableNode, UnaryNode, BinaryNode, BothNode, EitherNode, ChooseNode, CastNode, LoadNode, CallNode, BuiltinNode, ParenNode, ArgNodes, NoArgs, ValueArg, ArrayArg, StmtNode, DeclareNode, LocalArrayNode, SetVariableNode, SetElementNode, CallStmtNode, BarrierNode, IfNode, IfElseNode, WhileNode, DoNode, ForNode, BreakNode, ContinueNode, ReturnNode, BlockNode, EmptyNode, StmtNodes, NoStmts, AndStmt, FunctionNode}
 use Rattle.ocl_sem.specs.Source.{is_scalar}
 use Rattle.ocl_types.specs.Functions.{sites_from}
@@ -157,6 +157,32 @@ abbrev mutual
   stmts_arrays NoStmts = []
   stmts_arrays (AndStmt s ss) = stmt_arrays s ++ stmts_arrays ss
 
+-- ---- what is declared
+
+abbrev mutual
+  -- the variables and the arrays that are declared, each by its number
+  pub stmt_declared : StmtNode → List ℕ
+  stmt_declared (DeclareNode variable elem value) = variable ∷ []
+  stmt_declared (LocalArrayNode array count) = array ∷ []
+  stmt_declared (SetVariableNode variable elem op unsigned value) = []
+  stmt_declared (SetElementNode array elem place op unsigned value pos) = []
+  stmt_declared (CallStmtNode call) = []
+  stmt_declared (BarrierNode site) = []
+  stmt_declared (IfNode test one) = stmt_declared one
+  stmt_declared (IfElseNode test one other) = stmt_declared one ++ stmt_declared other
+  stmt_declared (WhileNode test body) = stmt_declared body
+  stmt_declared (DoNode body test) = stmt_declared body
+  stmt_declared (ForNode first test step body) = stmts_declared first ++ (stmts_declared step ++ stmt_declared body)
+  stmt_declared BreakNode = []
+  stmt_declared ContinueNode = []
+  stmt_declared (ReturnNode value) = []
+  stmt_declared (BlockNode items) = stmts_declared items
+  stmt_declared EmptyNode = []
+
+  pub stmts_declared : StmtNodes → List ℕ
+  stmts_declared NoStmts = []
+  stmts_declared (AndStmt s ss) = stmt_declared s ++ stmts_declared ss
+
 -- ---- functions
 
 -- each of some numbers is less
@@ -172,11 +198,16 @@ counted_up k n = range_with_len k n
 abbrev pub IsSmall : List FunctionNode → ℕ → Type 0
 IsSmall program k = (measured own_variables program k ≤ 256) × (measured own_nodes program k ≤ 16384)
 
--- Each variable of the body is one of the function's, and its scalar parameters are among them. Calls, barriers and arrays are
--- numbered in the order of the text, and each has its place in the function's tables.
+-- that no more branches, loops and calls stand within one another
+abbrev pub IsShallow : List FunctionNode → ℕ → Type 0
+IsShallow program k = (measured own_control program k ≤ 30) × (measured own_calls program k ≤ 31)
+
+-- Each variable of the body is one of the function's; its scalar parameters are among them, and there are no more than these and one for
+-- each declaration. Calls, barriers and arrays are numbered in the order of the text, and each has its place in the function's tables.
 pub record IsFormed (program : List FunctionNode) (f : FunctionNode) : Type 0 where
   pub variables : AreBelow f.variables (stmts_variables f.body)
   pub scalars : count_by is_scalar f.params ≤ f.variables
+  pub declared : f.variables ≤ count_by is_scalar f.params + length (stmts_declared f.body)
   pub calls : stmts_calls f.body ≡ counted_up 0 (length f.calls)
   pub sites : stmts_sites f.body ≡ counted_up 0 f.sites
   pub arrays : stmts_arrays f.body ≡ counted_up 0 (length f.arrays)

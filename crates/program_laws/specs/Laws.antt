@@ -6,7 +6,7 @@ use Rattle.ocl_program.specs.declared.functions.LocalArray.{LocalArray}
 use Rattle.ocl_program.specs.Measures.{measured, own_calls, own_control, own_depth, own_nodes, own_sites, own_variables}
 use Rattle.ocl_program.specs.Nodes.{FunctionNode}
 use Rattle.ocl_types.specs.Functions.{IsProgram}
-use Rattle.program_laws.specs.Formed.{IsFormed, IsSmall}
+use Rattle.program_laws.specs.Formed.{IsFormed, IsShallow, IsSmall}
 
 -- each array has at least one element and at most 2 ^ 18
 abbrev pub ArraysAreSmall : Type 0
@@ -46,6 +46,23 @@ CalleesAreSmall = (program : List FunctionNode) → IsProgram program → (k i :
 
 abbrev pub SitesAreFew : Type 0
 SitesAreFew = (program : List FunctionNode) → IsProgram program → (k : ℕ) → IsSmall program k → measured own_sites program k ≤ measured own_nodes program k
+
+-- branches and loops of a kernel stand within at most 30 others, its calls within 31, and it declares at most 16 arrays
+abbrev pub KernelsAreShallow : Type 0
+KernelsAreShallow = (program : List FunctionNode) → IsProgram program → (k : ℕ) (f : FunctionNode)
+    → slice_get program k ≡ Some f → f.kernel ≡ true → IsShallow program k
+
+abbrev pub KernelArraysAreFew : Type 0
+KernelArraysAreFew = (program : List FunctionNode) → IsProgram program → (k : ℕ) (f : FunctionNode)
+    → slice_get program k ≡ Some f → f.kernel ≡ true → length f.arrays ≤ 16
+
+-- a function has at most 16 parameters
+abbrev pub ParamsAreFew : Type 0
+ParamsAreFew = (program : List FunctionNode) → IsProgram program → (k : ℕ) (f : FunctionNode) → slice_get program k ≡ Some f → length f.params ≤ 16
+
+-- no more calls stand within one another than an expression has levels
+abbrev pub CallsAreLevels : Type 0
+CallsAreLevels = (program : List FunctionNode) → IsProgram program → (k : ℕ) → IsSmall program k → measured own_calls program k ≤ measured own_depth program k
 
 -- a function within the limits is formed: its numbers are as they are counted, though the typing keeps them below 2 ^ 32
 abbrev pub SmallAreFormed : Type 0

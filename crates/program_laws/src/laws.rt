@@ -1,5 +1,5 @@
 //! Laws of the programs of files, each as a contract. The functions themselves do nothing.
-ghost use Rattle.program_laws.specs.Laws.{AllSettle, ArraysAreSmall, CalleesAreSmall, KernelsAreSmall, NoneIsRecursive, SitesAreFew, SmallAreFormed};
+ghost use Rattle.program_laws.specs.Laws.{AllSettle, ArraysAreSmall, CalleesAreSmall, CallsAreLevels, KernelArraysAreFew, KernelsAreShallow, KernelsAreSmall, NoneIsRecursive, ParamsAreFew, SitesAreFew, SmallAreFormed};
 
 /// Each array of a function has at least one element and at most 262,144.
 pub fn arrays_are_small()
@@ -22,6 +22,19 @@ pub fn kernels_are_small()
     ensures kernels { KernelsAreSmall }
     ensures callees { CalleesAreSmall }
     ensures sites { SitesAreFew }
+{}
+
+/// In a kernel with its calls expanded at most 30 branches and loops, and at most 31 calls, stand within one another; it declares at most
+/// 16 arrays, and each function has at most 16 parameters.
+pub fn kernels_are_shallow()
+    ensures nested { KernelsAreShallow }
+    ensures arrays { KernelArraysAreFew }
+    ensures params { ParamsAreFew }
+{}
+
+/// In a function within the limits no more calls stand within one another than an expression has levels.
+pub fn calls_are_levels()
+    ensures { CallsAreLevels }
 {}
 
 /// In a function within these limits variables, calls, barriers and arrays are numbered in the order of the text.

@@ -4,7 +4,7 @@ use Rattle.ocl_inline.specs.Trees.{CallFlat, LostFlat, BuiltinFlat, ForFlat, Blo
 use Rattle.ocl_norm.specs.Arguments.{OneValue, TwoValues, ThreeValues, values_by, values_in, function_room}
 use Rattle.ocl_norm.specs.Counting.{counted}
 use Rattle.ocl_norm.specs.Normal.{calls, right_calls}
-use Rattle.ocl_norm.specs.Proper.{ArgsWords, ExprWords, StmtWords}
+use Rattle.ocl_inline.specs.Proper.{ArgsWords, ExprWords, StmtWords}
 use Rattle.ocl_norm.specs.Rooms.{builtin_room, one_room, pair_room, right_room, stmt_room, two_room, value_room}
 use Rattle.ocl_norm.specs.Sizes.{args_size, expr_size, stmt_size, stmts_size, value_size}
 use Rattle.ocl_norm.specs.Standings.{above, standing}

@@ -2,7 +2,7 @@ use Rattle.std.proofs.Common.{◌≡◌, ◌+◌, max, drop, option_map}
 use Rattle.ocl_inline.specs.Shapes.{expr_of, flat_arguments, flat_trees, stmt_of}
 use Rattle.ocl_inline.specs.Trees.{written}
 use Rattle.ocl_norm.specs.Counting.{counted}
-use Rattle.ocl_norm.specs.Proper.{ArgsWords, StmtsWords}
+use Rattle.ocl_inline.specs.Proper.{ArgsWords, StmtsWords}
 use Rattle.ocl_norm.specs.Rooms.{args_room, stmts_room}
 use Rattle.ocl_norm.specs.Sizes.{arg_size, args_size, else_size, expr_size, stmt_size, stmts_size, value_size}
 use Rattle.ocl_norm.proofs.rooms.+room.Given as goal
