@@ -98,6 +98,7 @@ unfolding measured_by
 helper_formed = record {
   variables = (omega arith, (omega arith, tt));
   scalars = omega arith;
+  declared = omega arith;
   calls = refl;
   sites = refl;
   table = refl;
@@ -115,6 +116,7 @@ unfolding measured_by
 caller_formed = record {
   variables = (omega arith, tt);
   scalars = omega arith;
+  declared = omega arith;
   calls = refl;
   sites = refl;
   table = refl;
