@@ -7,19 +7,23 @@ ghost use Rattle.asm_text.specs.HexLines.{hex_line, hex_lines, hex_word, hex_wor
 use crate::lines::cut_line;
 use hex::{FromHex, encode_to_slice};
 use std::alloc::{AllocError, AllocFailed, Global};
+use thiserror::Error;
 use vx_base::{Memory, Pos, Text, WordList};
 
 /// How many words a text has at most.
 const MOST_WORDS: u32 = 65536;
 
 /// Why a text of hexadecimal lines is refused.
-#[derive(Clone, Copy, Debug, PartialEq, Eq)]
+#[derive(Clone, Copy, Debug, PartialEq, Eq, Error)]
 pub enum HexFault {
     /// The first byte that cannot go on; the end of a line or of the text counts as a byte behind its last.
+    #[error("{0}: expected a line of eight hexadecimal digits")]
     Syntax(Pos),
     /// The first byte of the line of a word past the 65,536th, and the number of words up to that one.
+    #[error("{pos}: word {words} is one more than an image may have")]
     TooLarge { pos: Pos, words: u32 },
     /// Memory ran out.
+    #[error("memory ran out")]
     Memory,
 }
 

@@ -2,6 +2,7 @@
 
 use crate::mnemonics::{Mnemonic, Operands};
 use std::alloc::{AllocError, AllocFailed};
+use thiserror::Error;
 use vx_base::Pos;
 
 /// A piece of a line.
@@ -45,19 +46,25 @@ pub struct Line {
 }
 
 /// Why a text of assembly is refused.
-#[derive(Clone, Copy, Debug, PartialEq, Eq)]
+#[derive(Clone, Copy, Debug, PartialEq, Eq, Error)]
 pub enum AsmFault {
     /// The first byte of a line that no line goes on with; the line's end counts as a byte behind its last.
+    #[error("{0}: no line of assembly goes on like this")]
     Syntax(Pos),
     /// The first byte of a number that does not fit its field, or of a label that is too far.
+    #[error("{0}: this number does not fit its field, or this label is too far away")]
     Range(Pos),
     /// A label that no line has.
+    #[error("{0}: no line has this label")]
     NoLabel(Pos),
     /// The second label of a name.
+    #[error("{0}: an earlier line has this label")]
     LabelTwice(Pos),
     /// The first byte of the line of a word past the 65,536th, and the number of words up to that one.
+    #[error("{pos}: word {words} is one more than an image may have")]
     TooLarge { pos: Pos, words: u32 },
     /// Memory ran out.
+    #[error("memory ran out")]
     Memory,
 }
 

@@ -12,21 +12,21 @@ use Rattle.task_machine.specs.declared.tasks.Task.{Task}
 use Rattle.task_machine.specs.declared.tasks.Task.TheVariants as task
 use Rattle.task_machine.specs.Tasks.{State}
 use Rattle.task_machine.specs.Views.{state_of, task_by, tasks_by}
-use Rattle.flat_items.specs.declared.forms.Part.{Part}
-use Rattle.flat_items.specs.declared.forms.Part.TheVariants.{One, Block}
+use Rattle.flat_items.specs.declared.forms.FlatPart.{FlatPart}
+use Rattle.flat_items.specs.declared.forms.FlatPart.TheVariants.{One, Block}
 
 -- the statement that a part is
-abbrev pub part_of : Part → FlatStmt
+abbrev pub part_of : FlatPart → FlatStmt
 part_of (One stmt) = stmt_of stmt.now
 part_of (Block stmts) = BlockFlat (flat_trees stmts.now)
 
-abbrev pub flat_task : Task (Bor HeldExpr) Part → FlatTask
+abbrev pub flat_task : Task (Bor HeldExpr) FlatPart → FlatTask
 flat_task t = task_by (λ e. expr_of e.now) part_of t
 
-abbrev pub flat_tasks : List (Task (Bor HeldExpr) Part) → List FlatTask
+abbrev pub flat_tasks : List (Task (Bor HeldExpr) FlatPart) → List FlatTask
 flat_tasks ts = tasks_by (λ e. expr_of e.now) part_of ts
 
-abbrev pub flat_state : HeldState (Bor HeldExpr) Part → State FlatExpr FlatStmt
+abbrev pub flat_state : HeldState (Bor HeldExpr) FlatPart → State FlatExpr FlatStmt
 flat_state s = state_of (λ e. expr_of e.now) part_of s
 
 -- the value of one argument, where it is one

@@ -12,7 +12,7 @@ use task_machine::{Form, Loop, Task, Tasks};
 
 /// A statement that waits, or statements in order.
 #[derive(Clone, Copy)]
-pub enum Part<'a> {
+pub enum FlatPart<'a> {
     /// One statement.
     One(&'a FlatStmt),
     /// Statements in order, as a block.
@@ -20,13 +20,13 @@ pub enum Part<'a> {
 }
 
 /// A task of a flat kernel.
-pub type FlatTask<'a> = Task<&'a FlatExpr, Part<'a>>;
+pub type FlatTask<'a> = Task<&'a FlatExpr, FlatPart<'a>>;
 
 /// What is left to do in a flat kernel.
-pub type FlatTasks<'a> = Tasks<&'a FlatExpr, Part<'a>>;
+pub type FlatTasks<'a> = Tasks<&'a FlatExpr, FlatPart<'a>>;
 
 /// A loop of a flat kernel.
-pub type FlatLoop<'a> = Loop<&'a FlatExpr, Part<'a>>;
+pub type FlatLoop<'a> = Loop<&'a FlatExpr, FlatPart<'a>>;
 
 /// A flat kernel, as a form of program.
 #[derive(Clone, Copy)]
@@ -38,12 +38,16 @@ pub struct FlatForm<'a> {
 }
 
 /// The tasks of a statement, or of statements in order.
-fn push_part<'a>(tasks: &mut FlatTasks<'a>, alloc: Global, part: Part<'a>) -> Result<(), AllocError>
+fn push_part<'a>(
+    tasks: &mut FlatTasks<'a>,
+    alloc: Global,
+    part: FlatPart<'a>,
+) -> Result<(), AllocError>
     ensures { OnOk result (flat_tasks tasks.new ≡ stmt_tasks (part_of part.entry) (flat_tasks tasks.old)) }
 {
     match part {
-        Part::One(stmt) => push_stmt(tasks, alloc, stmt),
-        Part::Block(stmts) => push_stmts(tasks, alloc, stmts),
+        FlatPart::One(stmt) => push_stmt(tasks, alloc, stmt),
+        FlatPart::Block(stmts) => push_stmts(tasks, alloc, stmts),
     }
 }
 
@@ -53,7 +57,7 @@ impl<'a> Form for FlatForm<'a> {
 
     type Expr = &'a FlatExpr;
 
-    type Stmt = Part<'a>;
+    type Stmt = FlatPart<'a>;
 
     ghost Value = { AnyExpr };
 
@@ -69,7 +73,7 @@ impl<'a> Form for FlatForm<'a> {
         push_value(tasks, expr)
     }
 
-    fn push_body(&self, tasks: &mut FlatTasks<'a>, stmt: Part<'a>) -> Result<(), AllocError> {
+    fn push_body(&self, tasks: &mut FlatTasks<'a>, stmt: FlatPart<'a>) -> Result<(), AllocError> {
         push_part(tasks, self.alloc, stmt)
     }
 
@@ -77,7 +81,7 @@ impl<'a> Form for FlatForm<'a> {
         Ok(*expr)
     }
 
-    fn copy_stmt(&self, stmt: &Part<'a>) -> Result<Part<'a>, AllocError> {
+    fn copy_stmt(&self, stmt: &FlatPart<'a>) -> Result<FlatPart<'a>, AllocError> {
         Ok(*stmt)
     }
 }

@@ -1,16 +1,17 @@
 //! The work-items of a launch of a flat kernel.
-ghost use Rattle.std.specs.Prelude.{◌≡◌, IfOk};
+ghost use Rattle.std.specs.Prelude.{◌≡◌, [], IfOk};
 ghost use Rattle.item_settings.specs.Views.{IsRoomy};
 ghost use Rattle.ocl_inline.specs.FlatItems.{flat_start};
 ghost use Rattle.ocl_inline.specs.Shapes.{kernel_of};
 ghost use Rattle.flat_items.specs.Views.{flat_state};
 
-use crate::forms::{FlatForm, Part};
+use crate::forms::{FlatForm, FlatPart};
 use crate::statements::push_stmts;
 use item_acts::{Asked, Bound, BoundList, ItemCode, Range};
-use item_settings::{Setting, Stack, bound_values};
+use item_settings::{Setting, bound_values};
 use ocl_inline::{Flat, FlatExpr};
 use std::alloc::{AllocError, Global};
+use step_machine::Stack;
 use task_machine::State;
 use vx_base::Memory;
 
@@ -73,8 +74,9 @@ fn start<'a>(
     alloc: Global,
     flat: &'a Flat,
     bounds: &[Bound],
-) -> Result<State<&'a FlatExpr, Part<'a>>, AllocError>
-    ensures { IfOk result (λ state. flat_state state ≡ flat_start (kernel_of flat.now) bounds.now) }
+) -> Result<State<&'a FlatExpr, FlatPart<'a>>, AllocError>
+    ensures fresh { IfOk result (λ state. state.turns ≡ []) }
+    ensures start { IfOk result (λ state. flat_state state ≡ flat_start (kernel_of flat.now) bounds.now) }
 {
     let mut tasks = Stack::new(alloc);
     push_stmts(&mut tasks, alloc, flat.body.as_slice())?;

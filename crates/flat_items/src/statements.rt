@@ -5,7 +5,7 @@ ghost use Rattle.ocl_inline.specs.Shapes.{expr_of, flat_trees, stmt_of};
 ghost use Rattle.ocl_inline.specs.Trees.{DoFlat, WhileFlat, written};
 ghost use Rattle.flat_items.specs.Views.{branch_tasks, entered_tasks, flat_task, flat_tasks};
 
-use crate::forms::{FlatTask, FlatTasks, Part};
+use crate::forms::{FlatPart, FlatTask, FlatTasks};
 use crate::unfold::push_value;
 use ocl_ast::{AssignOp, BinOp, Gives};
 use ocl_inline::{FlatExpr, FlatStmt};
@@ -172,11 +172,11 @@ fn push_branch<'a>(
     ensures { OnOk result (flat_tasks tasks.new ≡ branch_tasks (expr_of test.now) (stmt_of one.now) (option_map (λ b. stmt_of b.value) other.now) (flat_tasks tasks.old)) }
 {
     let other = match other {
-        Some(other) => Some(Part::One(other)),
+        Some(other) => Some(FlatPart::One(other)),
         None => None,
     };
     tasks.push(Task::Branch {
-        one: Part::One(one),
+        one: FlatPart::One(one),
         other,
     })?;
     push_value(tasks, test)
@@ -191,7 +191,7 @@ fn push_while<'a>(
 ) -> Result<(), AllocError>
     ensures { OnOk result (flat_tasks tasks.new ≡ stmt_tasks (WhileFlat (expr_of test.now) (stmt_of body.now)) (flat_tasks tasks.old)) }
 {
-    let turning = Loop::new(alloc, Some(test), Part::Block(&[]), Part::One(body))?;
+    let turning = Loop::new(alloc, Some(test), FlatPart::Block(&[]), FlatPart::One(body))?;
     tasks.push(Task::Enter(turning))
 }
 
@@ -204,7 +204,7 @@ fn push_do<'a>(
 ) -> Result<(), AllocError>
     ensures { OnOk result (flat_tasks tasks.new ≡ stmt_tasks (DoFlat (stmt_of body.now) (expr_of test.now)) (flat_tasks tasks.old)) }
 {
-    let turning = Loop::new(alloc, Some(test), Part::Block(&[]), Part::One(body))?;
+    let turning = Loop::new(alloc, Some(test), FlatPart::Block(&[]), FlatPart::One(body))?;
     tasks.push(Task::EnterTurn(turning))
 }
 
@@ -222,7 +222,7 @@ fn push_entered<'a>(
         Some(test) => Some(&**test),
         None => None,
     };
-    let turning = Loop::new(alloc, test, Part::Block(step), Part::One(body))?;
+    let turning = Loop::new(alloc, test, FlatPart::Block(step), FlatPart::One(body))?;
     tasks.push(Task::Enter(turning))
 }
 

@@ -4,7 +4,7 @@ ghost use Rattle.ocl_inline.specs.FlatTasks.{args_tasks, bound_to, value_tasks, 
 ghost use Rattle.ocl_inline.specs.Shapes.{expr_of, flat_arguments};
 ghost use Rattle.flat_items.specs.Views.{argument_tasks, bound_tasks, flat_task, flat_tasks};
 
-use crate::forms::{FlatTask, FlatTasks, Part};
+use crate::forms::{FlatPart, FlatTask, FlatTasks};
 use ocl_inline::{Binding, FlatArgument, FlatExpr};
 use std::alloc::AllocError;
 use task_machine::Task;
@@ -66,7 +66,7 @@ pub fn push_value<'a>(tasks: &mut FlatTasks<'a>, expr: &'a FlatExpr) -> Result<(
             push_value(tasks, place)
         }
         FlatExpr::Call { args, body } => {
-            tasks.push(Task::Invoke(Part::Block(body.as_slice())))?;
+            tasks.push(Task::Invoke(FlatPart::Block(body.as_slice())))?;
             push_args(tasks, args.as_slice())
         }
         FlatExpr::Lost { .. } => tasks.push(Task::Number(0)),

@@ -3,7 +3,6 @@ mod WorkedMeasures
 mod WorkedTypes
 pub mod Rows
 pub mod Putting
-pub mod TurnLaws
 pub mod RunLaws
 pub mod JumpLaws
 pub mod LoopLaws

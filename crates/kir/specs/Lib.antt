@@ -3,6 +3,7 @@ pub mod Shapes
 pub mod Lists
 pub mod Machine
 pub mod Views
+pub mod Rising
 pub mod Launches
 pub mod Measures
 pub mod Loops

@@ -1,6 +1,6 @@
 -- The small steps of a work-item of a structured kernel. What is left to do is a list of tasks: single operations, and markers
 -- where a loop or a call goes on. A jump drops tasks down to its marker.
-use Rattle.std.specs.Prelude.{ℕ, ◌+◌, min, ◌-◌, ◌^◌, ◌==◌, nat_lt, if◌then◌else◌, List, [], ◌∷◌, ◌++◌, slice_index}
+use Rattle.std.specs.Prelude.{ℕ, ◌==◌, nat_lt, if◌then◌else◌, List, [], ◌∷◌, reverse, slice_index}
 use Rattle.vx_base.specs.Values.{alu_value_of, fitted}
 use Rattle.item_acts.specs.declared.acts.Action.TheVariants.{Load as LoadAction, Store as StoreAction, Barrier as BarrierAction, Fault, End}
 use Rattle.item_acts.specs.declared.acts.Asked.{Asked}
@@ -11,6 +11,8 @@ use Rattle.item_acts.specs.Machine.{Step, Go, Ask, Stop, asked}
 use Rattle.ocl_program.specs.declared.exprs.Builtin.{Builtin}
 use Rattle.ocl_program.specs.declared.exprs.Builtin.TheVariants.{WorkDim}
 use Rattle.step_machine.specs.Costs.{spent}
+use Rattle.step_machine.specs.Stacks.{under}
+use Rattle.step_machine.specs.Turns.{risen}
 use Rattle.item_settings.specs.Settings.{Setting, setting_of, bound_values, elem_size, low_bytes, place_in}
 use Rattle.kir.specs.Trees.{Operand, VariableOf, NumberOf, Op, Set, Calculate, Fit, Id, Load, Store, Check, Barrier, If, Loop, Break, Continue, Return, Call, Ops, NoOps, AndOp, KirCode}
 
@@ -28,7 +30,7 @@ pub data Task : Type 0 where
   Again : Turning → Task
   CallEnd : Task
 
--- A work-item: its tasks, its variables, and the numbers of turns of the loops that it is in, the outermost first.
+-- A work-item: its tasks, its variables, and the numbers of turns of the loops that it is in, the innermost first.
 pub record State : Type 0 where
   pub tasks : List Task
   pub variables : ℕ → ℕ
@@ -52,23 +54,9 @@ turn_tasks loop ts = ops_tasks loop.body (Again loop ∷ ts)
 abbrev pub step_tasks : Turning → List Task → List Task
 step_tasks loop ts = ops_tasks loop.step (head_tasks loop ts)
 
--- ---- numbers of turns
-
 -- a loop is entered
 abbrev pub entered : List ℕ → List ℕ
-entered ns = ns ++ 0 ∷ []
-
--- the innermost loop is left
-abbrev pub without_last : List ℕ → List ℕ
-without_last [] = []
-without_last (n ∷ []) = []
-without_last (n ∷ m ∷ ns) = n ∷ without_last (m ∷ ns)
-
--- One more turn of the innermost loop is over. Numbers of turns are kept up to 2 ^ 64 - 1, which no run of fewer steps comes to.
-abbrev pub risen : List ℕ → List ℕ
-risen [] = []
-risen (n ∷ []) = min (n + 1) (2 ^ 64 - 1) ∷ []
-risen (n ∷ m ∷ ns) = n ∷ risen (m ∷ ns)
+entered ns = 0 ∷ ns
 
 -- ---- jumps
 
@@ -76,23 +64,23 @@ risen (n ∷ m ∷ ns) = n ∷ risen (m ∷ ns)
 abbrev pub returned : List Task → (ℕ → ℕ) → List ℕ → State
 returned [] vs ns = state [] vs ns
 returned (Do op ∷ ts) vs ns = returned ts vs ns
-returned (Decide loop ∷ ts) vs ns = returned ts vs (without_last ns)
-returned (Again loop ∷ ts) vs ns = returned ts vs (without_last ns)
+returned (Decide loop ∷ ts) vs ns = returned ts vs (under ns)
+returned (Again loop ∷ ts) vs ns = returned ts vs (under ns)
 returned (CallEnd ∷ ts) vs ns = state ts vs ns
 
 -- `Break`: out of the innermost loop. Outside every loop of a call it is a `Return`.
 abbrev pub broken : List Task → (ℕ → ℕ) → List ℕ → State
 broken [] vs ns = state [] vs ns
 broken (Do op ∷ ts) vs ns = broken ts vs ns
-broken (Decide loop ∷ ts) vs ns = state ts vs (without_last ns)
-broken (Again loop ∷ ts) vs ns = state ts vs (without_last ns)
+broken (Decide loop ∷ ts) vs ns = state ts vs (under ns)
+broken (Again loop ∷ ts) vs ns = state ts vs (under ns)
 broken (CallEnd ∷ ts) vs ns = state ts vs ns
 
 -- `Continue`: to the end of the body. In a head or a step it leaves that loop; outside every loop of a call it is a `Return`.
 abbrev pub continued : List Task → (ℕ → ℕ) → List ℕ → State
 continued [] vs ns = state [] vs ns
 continued (Do op ∷ ts) vs ns = continued ts vs ns
-continued (Decide loop ∷ ts) vs ns = state ts vs (without_last ns)
+continued (Decide loop ∷ ts) vs ns = state ts vs (under ns)
 continued (Again loop ∷ ts) vs ns = state (Again loop ∷ ts) vs ns
 continued (CallEnd ∷ ts) vs ns = state ts vs ns
 
@@ -117,7 +105,7 @@ op_step at (Id d which a) ts vs ns = Go (state ts (put_at d (known_of at which (
 op_step at (Load d array elem a) ts vs ns = Ask (LoadAction (place_in at.group (at.array array) elem (value vs a)) (elem_size elem)) (λ answer. state ts (put_at d (fitted elem answer) vs) ns)
 op_step at (Store array elem a b) ts vs ns = Ask (StoreAction (place_in at.group (at.array array) elem (value vs a)) (elem_size elem) (low_bytes elem (value vs b))) (λ answer. state ts vs ns)
 op_step at (Check array a pos) ts vs ns = if nat_lt (value vs a) (at.array array).count then Go (state ts vs ns) else Stop (Fault pos)
-op_step at (Barrier site) ts vs ns = Ask (BarrierAction (record { site = site; turns = ns })) (λ answer. state ts vs ns)
+op_step at (Barrier site) ts vs ns = Ask (BarrierAction (record { site = site; turns = reverse ns })) (λ answer. state ts vs ns)
 op_step at (If test one other) ts vs ns = Go (state (if value vs test == 0 then ops_tasks other ts else ops_tasks one ts) vs ns)
 op_step at (Loop head test body step) ts vs ns = Go (state (head_tasks (record { head = head; test = test; body = body; step = step }) ts) vs (entered ns))
 op_step at Break ts vs ns = Go (broken ts vs ns)
@@ -128,7 +116,7 @@ op_step at (Call body) ts vs ns = Go (state (ops_tasks body (CallEnd ∷ ts)) vs
 -- one small step at a task
 abbrev pub task_step : Setting → Task → List Task → (ℕ → ℕ) → List ℕ → Step State
 task_step at (Do op) ts vs ns = op_step at op ts vs ns
-task_step at (Decide loop) ts vs ns = Go (if value vs loop.test == 0 then state ts vs (without_last ns) else state (turn_tasks loop ts) vs ns)
+task_step at (Decide loop) ts vs ns = Go (if value vs loop.test == 0 then state ts vs (under ns) else state (turn_tasks loop ts) vs ns)
 task_step at (Again loop) ts vs ns = Go (state (step_tasks loop ts) vs (risen ns))
 task_step at CallEnd ts vs ns = Go (state ts vs ns)
 

@@ -1,17 +1,11 @@
 -- Which state of the machine the code's state is.
 use Rattle.std.specs.Prelude.{◌≡◌, ℕ, ◌==◌, if◌then◌else◌, slice_index, List, [], ◌∷◌, Option, None, Some}
 use Rattle.vx_base.specs.Values.{alu_value_of, fitted}
-use Rattle.item_acts.specs.declared.acts.Action.{Action}
-use Rattle.item_acts.specs.declared.acts.Asked.{Asked}
-use Rattle.item_acts.specs.declared.acts.Asked.TheVariants.{Act, Running}
 use Rattle.item_acts.specs.Launches.{put_at}
-use Rattle.item_acts.specs.Machine.{Step, Go, Ask, Stop}
+use Rattle.item_acts.specs.Machine.{Step, Go}
 use Rattle.item_settings.specs.Settings.{Setting}
-use Rattle.kir.specs.declared.runs.Turn.{Turn}
-use Rattle.kir.specs.declared.runs.Turn.TheVariants.{Goes, Is}
-use Rattle.kir.specs.declared.states.Found.{Found}
-use Rattle.kir.specs.declared.states.Found.TheVariants.{Moved, Asks, Stops}
-use Rattle.kir.specs.declared.states.Kept.{Kept}
+use Rattle.step_machine.specs.Stacks.{under}
+use Rattle.kir.specs.declared.states.Target.{Target}
 use Rattle.kir.specs.declared.states.State.{State as HeldState}
 use Rattle.kir.specs.declared.tasks.Task.{Task as HeldTask}
 use Rattle.kir.specs.declared.tasks.Task.TheVariants as held
@@ -42,23 +36,16 @@ abbrev pub variables_of : HeldState → ℕ → ℕ
 variables_of s = slice_index s.variables.items.items
 
 abbrev pub state_of : HeldState → State
-state_of s = state (tasks_of s.tasks) (variables_of s) s.turns.items
+state_of s = state (tasks_of s.tasks) (variables_of s) s.turns
 
 -- the state behind an answer that becomes the value of a variable
-abbrev pub told_variable : Kept → ℕ → State → State
-told_variable kept answer s = state s.tasks (put_at kept.variable (fitted kept.elem answer) s.variables) s.turns
+abbrev pub told_variable : Target → ℕ → State → State
+told_variable target answer s = state s.tasks (put_at target.variable (fitted target.elem answer) s.variables) s.turns
 
 -- the state behind an answer that becomes the value of a variable, or nothing
-abbrev pub told_value : Option Kept → ℕ → State → State
+abbrev pub told_value : Option Target → ℕ → State → State
 told_value None answer s = s
-told_value (Some kept) answer s = told_variable kept answer s
-
--- what a step found, where the state behind it is this one
-abbrev pub shown : Found → State → Step State
-shown Moved s = Go s
-shown (Asks a None) s = Ask a (λ answer. s)
-shown (Asks a (Some kept)) s = Ask a (λ answer. told_variable kept answer s)
-shown (Stops a) s = Stop a
+told_value (Some target) answer s = told_variable target answer s
 
 -- ---- jumps
 
@@ -81,18 +68,6 @@ ReturnsTo before turns after turns' = (vs : ℕ → ℕ) → machine.returned be
 -- a `Return` over these tasks ends here
 abbrev pub ReturnsAt : List Task → List ℕ → List Task → List ℕ → Type 0
 ReturnsAt before turns after turns' = (vs : ℕ → ℕ) → machine.returned before vs turns ≡ state after vs turns'
-
--- ---- answers
-
--- what is asked for behind a turn, by what is asked for after the answers that are left
-abbrev pub went : Turn → (List ℕ → Asked) → Asked
-went (Goes answers) next = next answers.now
-went (Is a) next = a
-
--- an action, where no answer is left
-abbrev pub without_answers : Action → List ℕ → Asked
-without_answers action [] = Act action
-without_answers action (answer ∷ answers) = Running
 
 -- ---- operations by what they do; what is of another kind leaves all as it was
 
@@ -127,7 +102,7 @@ jumped other ts vs ns = state ts vs ns
 
 -- the state behind the test of a loop
 abbrev pub decided : Turning → List Task → (ℕ → ℕ) → List ℕ → State
-decided loop ts vs ns = if value vs loop.test == 0 then state ts vs (machine.without_last ns) else state (machine.turn_tasks loop ts) vs ns
+decided loop ts vs ns = if value vs loop.test == 0 then state ts vs (under ns) else state (machine.turn_tasks loop ts) vs ns
 
 -- what an operation on an array finds
 abbrev pub accessed : Setting → Op → State → Step State

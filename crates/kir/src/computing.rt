@@ -36,7 +36,7 @@ fn known(at: &Setting<'_>, which: Builtin, d: u32) -> u32
 impl<'a> State<'a> {
     /// An operation that computes the value of a variable.
     pub fn compute(&mut self, at: &Setting<'_>, op: &Op) -> Result<(), AllocError>
-        ensures { OnOk result (state_of self.new ≡ state (tasks_of self.old.tasks) (computed (setting_in at.now) (op_of op.now) (variables_of self.old)) self.old.turns.items) }
+        ensures { OnOk result (state_of self.new ≡ state (tasks_of self.old.tasks) (computed (setting_in at.now) (op_of op.now) (variables_of self.old)) self.old.turns) }
     {
         match op {
             Op::Set { variable, value } => {

@@ -49,7 +49,7 @@ fn asked(
         item,
     };
     let mut state = State::start(alloc, code, bounds)?;
-    state.run(alloc, &at, answers, fuel)
+    state.run(alloc, code, &at, answers, fuel)
 }
 
 /// All work-items of a launch of a structured kernel.

@@ -7,13 +7,13 @@ ghost use Rattle.kir.specs.Views.{ReturnsAt, ReturnsTo, jumped, state_of, task_o
 use crate::ops::Op;
 use crate::states::State;
 use crate::tasks::{Task, Tasks, find_marker};
-use crate::turns::leave_turns;
 use std::alloc::AllocError;
+use step_machine::{Turns, leave_turns};
 
 /// Leaves a task on the way of a `Return`, with the loop that it is of; true where the task is the end of a call.
-fn ends_call(task: Task<'_>, turns: &mut Vec<u64>) -> bool
-    ensures end { result ≡ true → (before : List AnyTask) → ReturnsAt (task_of task.entry ∷ before) turns.old.items before turns.new.items }
-    ensures other { result ≡ false → (before : List AnyTask) → ReturnsTo (task_of task.entry ∷ before) turns.old.items before turns.new.items }
+fn ends_call(task: Task<'_>, turns: &mut Turns) -> bool
+    ensures end { result ≡ true → (before : List AnyTask) → ReturnsAt (task_of task.entry ∷ before) turns.old before turns.new }
+    ensures other { result ≡ false → (before : List AnyTask) → ReturnsTo (task_of task.entry ∷ before) turns.old before turns.new }
 {
     match task {
         Task::Do(_) => false,
@@ -26,8 +26,8 @@ fn ends_call(task: Task<'_>, turns: &mut Vec<u64>) -> bool
 }
 
 /// Takes the tasks of the innermost call, or all tasks outside every call, and leaves the loops of which they are.
-fn leave_call(tasks: &mut Tasks<'_>, turns: &mut Vec<u64>)
-    ensures { ReturnsAt (tasks_of tasks.old) turns.old.items (tasks_of tasks.new) turns.new.items }
+fn leave_call(tasks: &mut Tasks<'_>, turns: &mut Turns)
+    ensures { ReturnsAt (tasks_of tasks.old) turns.old (tasks_of tasks.new) turns.new }
 {
     while let Some(task) = tasks.pop() {
         if ends_call(task, turns) {
@@ -39,7 +39,7 @@ fn leave_call(tasks: &mut Tasks<'_>, turns: &mut Vec<u64>)
 impl<'a> State<'a> {
     /// A jump.
     pub fn jump(&mut self, op: &Op) -> Result<(), AllocError>
-        ensures { OnOk result (state_of self.new ≡ jumped (op_of op.now) (tasks_of self.old.tasks) (variables_of self.old) self.old.turns.items) }
+        ensures { OnOk result (state_of self.new ≡ jumped (op_of op.now) (tasks_of self.old.tasks) (variables_of self.old) self.old.turns) }
     {
         match op {
             Op::Break => {
@@ -59,7 +59,7 @@ impl<'a> State<'a> {
 
     /// `break`
     fn leave_loop(&mut self)
-        ensures { state_of self.new ≡ broken (tasks_of self.old.tasks) (variables_of self.old) self.old.turns.items }
+        ensures { state_of self.new ≡ broken (tasks_of self.old.tasks) (variables_of self.old) self.old.turns }
     {
         match find_marker(&mut self.tasks) {
             Some(Task::Decide(_) | Task::Again(_)) => leave_turns(&mut self.turns),
@@ -70,7 +70,7 @@ impl<'a> State<'a> {
 
     /// `continue`
     fn end_turn(&mut self) -> Result<(), AllocError>
-        ensures { OnOk result (state_of self.new ≡ continued (tasks_of self.old.tasks) (variables_of self.old) self.old.turns.items) }
+        ensures { OnOk result (state_of self.new ≡ continued (tasks_of self.old.tasks) (variables_of self.old) self.old.turns) }
     {
         match find_marker(&mut self.tasks) {
             Some(Task::Again(turning)) => self.tasks.push(Task::Again(turning)),

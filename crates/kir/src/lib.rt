@@ -8,7 +8,6 @@
 
 pub mod accesses;
 pub mod computing;
-pub mod copies;
 pub mod items;
 pub mod jumps;
 pub mod lists;
@@ -19,9 +18,7 @@ pub mod runs;
 pub mod states;
 pub mod steps;
 pub mod tasks;
-pub mod turns;
 
-pub use copies::copied_params;
 pub use items::{KirItems, kir_next};
 pub use lists::{put, put_set};
 pub use nodes::{call_op, if_op, loop_op};

@@ -1,103 +1,92 @@
-//! Runs of a work-item: from its start, after some answers, for some small steps.
-ghost use Rattle.std.specs.Prelude.{◌≡◌, ℕ, suc, IfOk, OnOk};
-ghost use Rattle.item_acts.specs.Machine.{asked as asked_of, asked_at_once};
+//! A kernel in a launch, as a machine of small steps.
+ghost use Rattle.std.specs.Prelude.{◌≡◌, [], IfOk, OnOk};
+ghost use Rattle.item_acts.specs.Machine.{asked as asked_of};
 ghost use Rattle.item_settings.specs.Views.{setting_in};
 ghost use Rattle.kir.specs.Machine.{step as step_of_item};
-ghost use Rattle.kir.specs.Views.{state_of, told_value, went, without_answers};
+ghost use Rattle.kir.specs.Views.{state_of, told_value};
 
-use crate::states::{Found, Kept, State};
-use item_acts::{Action, Asked};
+use crate::ops::Kir;
+use crate::states::{State, Target};
+use item_acts::Asked;
 use item_settings::Setting;
 use std::alloc::{AllocError, Global};
+use step_machine::{Found, SmallSteps, run};
 use vx_base::fit;
 
-/// What has come of a step: the answers that are left, or what is asked for.
+/// A kernel, and what a work-item knows of its launch.
 #[derive(Drop)]
-pub enum Turn<'b> {
-    /// The item goes on, with these answers.
-    Goes(&'b [u32]),
-    /// This is asked for.
-    Is(Asked),
+struct Launched<'a, 'r, 's> {
+    /// The kernel.
+    code: &'a Kir,
+    /// What the item knows.
+    at: &'r Setting<'s>,
+}
+
+impl<'a, 'r, 's> SmallSteps for Launched<'a, 'r, 's> {
+    ghost use Rattle.item_settings.specs.Views.{setting_in};
+    ghost use Rattle.kir.specs.Machine.{State as AnyState, step as step_of_item};
+    ghost use Rattle.kir.specs.Rising.{step_rises};
+    ghost use Rattle.kir.specs.Views.{state_of as standing, told_value};
+
+    type State = State<'a>;
+
+    type Kept = Option<Target>;
+
+    ghost Standing = { AnyState };
+
+    ghost state_of = { standing };
+
+    ghost step_of = { λ launched. step_of_item (setting_in launched.at.now) };
+
+    ghost told = { told_value };
+
+    ghost turns_of = { λ s. s.turns };
+
+    fn step(
+        &self,
+        alloc: Global,
+        state: &mut State<'a>,
+    ) -> Result<Found<Option<Target>>, AllocError> {
+        state.step(alloc, self.at)
+    }
+
+    fn take_answer(
+        &self,
+        state: &mut State<'a>,
+        kept: Option<Target>,
+        answer: u32,
+    ) -> Result<(), AllocError> {
+        state.take_answer(kept, answer)
+    }
+
+    ghost rises = { λ launched. step_rises (setting_in launched.at.now) };
 }
 
 impl<'a> State<'a> {
     /// Takes an answer: the value of a variable, or nothing.
-    fn told(&mut self, answer: u32, kept: Option<Kept>) -> Result<(), AllocError>
+    fn take_answer(&mut self, kept: Option<Target>, answer: u32) -> Result<(), AllocError>
         ensures { OnOk result (state_of self.new ≡ told_value kept answer (state_of self.old)) }
     {
         match kept {
-            Some(kept) => self.variables.put(kept.variable, fit(kept.elem, answer)),
+            Some(target) => self
+                .variables
+                .put(target.variable, fit(target.elem, answer)),
             None => Ok(()),
         }
     }
 
-    /// One small step, or an answer more.
-    fn turn<'b>(
-        &mut self,
-        alloc: Global,
-        at: &Setting<'_>,
-        answers: &'b [u32],
-    ) -> Result<Turn<'b>, AllocError>
-        ensures { IfOk result (λ turn. (n : ℕ) → asked_of (step_of_item (setting_in at.now)) (suc n) (state_of self.old) answers.now
-            ≡ went turn (asked_of (step_of_item (setting_in at.now)) n (state_of self.new))) }
-    {
-        match self.step(alloc, at)? {
-            Found::Moved => Ok(Turn::Goes(answers)),
-            Found::Asks(action, kept) => match answers {
-                [] => Ok(Turn::Is(Asked::Act(action))),
-                [answer, more @ ..] => {
-                    self.told(*answer, kept)?;
-                    Ok(Turn::Goes(more))
-                }
-            },
-            Found::Stops(action) => Ok(Turn::Is(stopped(action, answers))),
-        }
-    }
-
-    /// What is asked for after these answers, if at most so many small steps lead there.
+    /// What is asked for after these answers, if at most so many small steps lead there from a state that is in no loop.
     pub fn run(
         &mut self,
         alloc: Global,
+        code: &'a Kir,
         at: &Setting<'_>,
         answers: &[u32],
         fuel: u64,
     ) -> Result<Asked, AllocError>
+        requires fresh { self.now.turns ≡ [] }
         ensures { IfOk result (λ asked. asked ≡ asked_of (step_of_item (setting_in at.now)) fuel (state_of self.old) answers.now) }
     {
-        let mut rest = answers;
-        for _ in 0..fuel {
-            match self.turn(alloc, at, rest) {
-                Ok(Turn::Goes(more)) => rest = more,
-                Ok(Turn::Is(asked)) => return Ok(asked),
-                Err(fault) => return Err(fault),
-            }
-        }
-        self.at_once(alloc, at, rest)
-    }
-
-    /// What is asked for after these answers without another small step.
-    fn at_once(
-        &mut self,
-        alloc: Global,
-        at: &Setting<'_>,
-        answers: &[u32],
-    ) -> Result<Asked, AllocError>
-        ensures { IfOk result (λ asked. asked ≡ asked_at_once (step_of_item (setting_in at.now) (state_of self.old)) answers.now) }
-    {
-        match self.step(alloc, at)? {
-            Found::Moved => Ok(Asked::Running),
-            Found::Asks(action, _) => Ok(stopped(action, answers)),
-            Found::Stops(action) => Ok(stopped(action, answers)),
-        }
-    }
-}
-
-/// An action, where no answer is left.
-fn stopped(action: Action, answers: &[u32]) -> Asked
-    ensures { result ≡ without_answers action answers.now }
-{
-    match answers {
-        [] => Asked::Act(action),
-        [_, ..] => Asked::Running,
+        run(alloc, &Launched { code, at }, self, answers, fuel)
     }
 }

@@ -6,9 +6,10 @@ ghost use Rattle.kir.specs.Views.{state_of, variables_of};
 
 use crate::ops::{Kir, Operand};
 use crate::tasks::{Tasks, push_ops};
-use item_acts::{Action, Bound};
-use item_settings::{Stack, Variables, bound_values};
+use item_acts::Bound;
+use item_settings::{Variables, bound_values};
 use std::alloc::{AllocError, Global};
+use step_machine::{Stack, Turns};
 use vx_base::Elem;
 
 /// The state of a work-item.
@@ -18,34 +19,24 @@ pub struct State<'a> {
     pub tasks: Tasks<'a>,
     /// The variables.
     pub variables: Variables,
-    /// The numbers of turns of the loops that the item is in, the outermost first.
-    pub turns: Vec<u64>,
+    /// The numbers of turns of the loops that the item is in.
+    pub turns: Turns,
 }
 
 /// What becomes of an answer.
 #[derive(Clone, Copy, Debug, PartialEq, Eq)]
-pub struct Kept {
+pub struct Target {
     /// The variable whose value it is.
     pub variable: u32,
     /// The type to which it is cut.
     pub elem: Elem,
 }
 
-/// What a small step found.
-#[derive(Debug, Drop)]
-pub enum Found {
-    /// An inner step, which is made.
-    Moved,
-    /// An action that has an answer, and what becomes of the answer, where it is kept.
-    Asks(Action, Option<Kept>),
-    /// An action without an answer.
-    Stops(Action),
-}
-
 impl<'a> State<'a> {
     /// A work-item of a kernel before its first step.
     pub fn start(alloc: Global, code: &'a Kir, bounds: &[Bound]) -> Result<State<'a>, AllocError>
-        ensures { IfOk result (λ state. state_of state ≡ kir_start (code_of code.now) bounds.now) }
+        ensures start { IfOk result (λ state. state_of state ≡ kir_start (code_of code.now) bounds.now) }
+        ensures fresh { IfOk result (λ state. state.turns ≡ []) }
     {
         let mut tasks = Stack::new(alloc);
         push_ops(&mut tasks, code.ops.as_slice())?;
@@ -53,7 +44,7 @@ impl<'a> State<'a> {
         Ok(State {
             tasks,
             variables: Variables { items: values },
-            turns: Vec::new(alloc),
+            turns: Stack::new(alloc),
         })
     }
 

@@ -1,22 +1,29 @@
 //! The small steps of a work-item.
-ghost use Rattle.std.specs.Prelude.{◌≡◌, IfOk};
+ghost use Rattle.std.specs.Prelude.{◌≡◌, ◌-◌, ◌^◌, IfOk};
 ghost use Rattle.item_settings.specs.Views.{setting_in};
 ghost use Rattle.kir.specs.Machine.{op_step, step as step_of_item, task_step};
 ghost use Rattle.kir.specs.Shapes.{op_of};
-ghost use Rattle.kir.specs.Views.{shown, state_of, task_of, tasks_of, variables_of};
+ghost use Rattle.kir.specs.Views.{state_of, task_of, tasks_of, told_value, variables_of};
+ghost use Rattle.step_machine.specs.Steps.{shown};
+ghost use Rattle.step_machine.specs.Turns.{EachBelow};
 
 use crate::ops::Op;
-use crate::states::{Found, State};
+use crate::states::{State, Target};
 use crate::tasks::Task;
-use crate::turns::turns_now;
 use item_acts::{Action, Point};
 use item_settings::Setting;
 use std::alloc::{AllocError, Global};
+use step_machine::Found;
 
 impl<'a> State<'a> {
     /// One small step: what it found, and the state behind it.
-    pub fn step(&mut self, alloc: Global, at: &Setting<'_>) -> Result<Found, AllocError>
-        ensures { IfOk result (λ found. step_of_item (setting_in at.now) (state_of self.old) ≡ shown found (state_of self.new)) }
+    pub fn step(
+        &mut self,
+        alloc: Global,
+        at: &Setting<'_>,
+    ) -> Result<Found<Option<Target>>, AllocError>
+        requires below { EachBelow (2 ^ 64 - 1) self.now.turns }
+        ensures { IfOk result (λ found. step_of_item (setting_in at.now) (state_of self.old) ≡ shown told_value found (state_of self.new)) }
     {
         match self.tasks.pop() {
             Some(task) => self.perform(alloc, at, task),
@@ -30,8 +37,9 @@ impl<'a> State<'a> {
         alloc: Global,
         at: &Setting<'_>,
         task: Task<'a>,
-    ) -> Result<Found, AllocError>
-        ensures { IfOk result (λ found. task_step (setting_in at.now) (task_of task.entry) (tasks_of self.old.tasks) (variables_of self.old) self.old.turns.items ≡ shown found (state_of self.new)) }
+    ) -> Result<Found<Option<Target>>, AllocError>
+        requires below { EachBelow (2 ^ 64 - 1) self.now.turns }
+        ensures { IfOk result (λ found. task_step (setting_in at.now) (task_of task.entry) (tasks_of self.old.tasks) (variables_of self.old) self.old.turns ≡ shown told_value found (state_of self.new)) }
     {
         match task {
             Task::Do(op) => self.operate(alloc, at, op),
@@ -48,8 +56,13 @@ impl<'a> State<'a> {
     }
 
     /// An operation.
-    fn operate(&mut self, alloc: Global, at: &Setting<'_>, op: &'a Op) -> Result<Found, AllocError>
-        ensures { IfOk result (λ found. op_step (setting_in at.now) (op_of op.now) (tasks_of self.old.tasks) (variables_of self.old) self.old.turns.items ≡ shown found (state_of self.new)) }
+    fn operate(
+        &mut self,
+        alloc: Global,
+        at: &Setting<'_>,
+        op: &'a Op,
+    ) -> Result<Found<Option<Target>>, AllocError>
+        ensures { IfOk result (λ found. op_step (setting_in at.now) (op_of op.now) (tasks_of self.old.tasks) (variables_of self.old) self.old.turns ≡ shown told_value found (state_of self.new)) }
     {
         match op {
             Op::Set { .. } | Op::Calculate { .. } | Op::Fit { .. } | Op::Id { .. } => {
@@ -66,7 +79,7 @@ impl<'a> State<'a> {
             }
             Op::Load { .. } | Op::Store { .. } | Op::Check { .. } => Ok(self.access(at, op)),
             Op::Barrier { site } => {
-                let turns = turns_now(alloc, self.turns.as_slice())?;
+                let turns = self.turns.to_list(alloc)?;
                 Ok(Found::Asks(Action::Barrier(Point { site: *site, turns }), None))
             }
         }

@@ -5,8 +5,8 @@ ghost use Rattle.kir.specs.Shapes.{ops_of};
 ghost use Rattle.kir.specs.Views.{IsMarker, SkipsTo, task_of, tasks_of, turning_of};
 
 use crate::ops::{Op, Operand};
-use item_settings::Stack;
 use std::alloc::AllocError;
+use step_machine::Stack;
 
 /// A loop, from its head on.
 #[derive(Clone, Copy)]

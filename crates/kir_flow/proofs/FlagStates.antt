@@ -10,7 +10,8 @@ use Rattle.item_acts.specs.Machine.{Go}
 use Rattle.item_acts.proofs.Launches.{put_at_same, put_at_other}
 use Rattle.item_settings.specs.Settings.{Setting}
 use Rattle.step_machine.specs.Sims.{GoAlong, SecondGoes}
-use Rattle.kir.specs.Machine.{State, state, Task, Do, Decide, Turning, value, step, cost, ops_tasks, turn_tasks, without_last}
+use Rattle.step_machine.specs.Stacks.{under}
+use Rattle.kir.specs.Machine.{State, state, Task, Do, Decide, Turning, value, step, cost, ops_tasks, turn_tasks}
 use Rattle.kir.specs.Trees.{Operand, Set, Calculate, If, Ops}
 use Rattle.kir_flow.specs.declared.scopes.Jump.{Jump}
 use Rattle.kir_flow.specs.declared.scopes.Scope.{Scope}
@@ -121,10 +122,10 @@ takes_other at n s test one other ts vs ns e h =
 
 -- a loop is left at its test
 pub ends : (at : Setting) (n : ℕ) (s : State) (loop : Turning) (ts : List Task) (vs : ℕ → ℕ) (ns : List ℕ) → value vs loop.test ≡ 0
-    → Along at n s (state ts vs (without_last ns)) → Along at n s (state (Decide loop ∷ ts) vs ns)
+    → Along at n s (state ts vs (under ns)) → Along at n s (state (Decide loop ∷ ts) vs ns)
 ends at n s loop ts vs ns e h =
-    SecondGoes n s (state (Decide loop ∷ ts) vs ns) (state ts vs (without_last ns))
-    (ap (λ y. Go (if y == 0 then state ts vs (without_last ns) else state (turn_tasks loop ts) vs ns)) e) (ap (λ y. if y == 0 then 0 else 1) e) h
+    SecondGoes n s (state (Decide loop ∷ ts) vs ns) (state ts vs (under ns))
+    (ap (λ y. Go (if y == 0 then state ts vs (under ns) else state (turn_tasks loop ts) vs ns)) e) (ap (λ y. if y == 0 then 0 else 1) e) h
 
 -- ---- operations on flags that are 1 or 0
 

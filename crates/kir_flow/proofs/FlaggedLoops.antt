@@ -7,10 +7,12 @@ use Rattle.item_acts.proofs.Launches.{put_at_same, put_at_other}
 use Rattle.item_settings.specs.Settings.{Setting}
 use Rattle.step_machine.specs.Sims.{Unseen, BothGo, SecondGoes}
 use Rattle.step_machine.proofs.AlongLaws.{fewer}
-use Rattle.kir.specs.Machine.{State, state, Task, Do, Decide, Again, Turning, value, step, cost, ops_tasks, turn_tasks, head_tasks, step_tasks, entered, without_last, risen}
+use Rattle.step_machine.specs.Stacks.{under}
+use Rattle.step_machine.specs.Turns.{risen}
+use Rattle.step_machine.proofs.TurnLaws.{under_risen}
+use Rattle.kir.specs.Machine.{State, state, Task, Do, Decide, Again, Turning, value, step, cost, ops_tasks, turn_tasks, head_tasks, step_tasks, entered}
 use Rattle.kir.specs.Machine.{returned}
 use Rattle.kir.specs.Trees.{Operand, VariableOf, Set, Loop, Ops, NoOps}
-use Rattle.kir.proofs.TurnLaws.{last_gone}
 use Rattle.kir_flow.specs.declared.scopes.Jump.{Jump}
 use Rattle.kir_flow.specs.declared.scopes.Scope.{Scope}
 use Rattle.kir_flow.specs.declared.scopes.Jump.TheVariants.{ByBreak, ByContinue, ByReturn}
@@ -24,7 +26,7 @@ use Rattle.kir_flow.proofs.Silence.{silent, loop_of, quiet_head}
 use Rattle.kir_flow.proofs.FollowStates.{Fine, Alike, live_behind, value_same, value_word, alike_same, jumped, jump_skips, Next, Leave, Follows}
 use Rattle.kir_flow.proofs.FlagSteps.{Apart, Has, has_live, has_of, alike_of, edge_apart, passed_alive, passed_returned, loop_over}
 use Rattle.kir_flow.proofs.StraightFollows.{or_first, or_second, alive_is}
-use Rattle.kir_flow.proofs.LoopFollows.{risen_gone, decides, source_loop}
+use Rattle.kir_flow.proofs.LoopFollows.{decides, source_loop}
 
 -- ---- the flags of a loop
 
@@ -67,7 +69,7 @@ pub record Exits (at : Setting) (count n : ℕ) (f : Scope) (returns : Bool) (vs
 
 -- by a jump, once the second has left the loop too
 leaves_edge : (at : Setting) (count n : ℕ) (f : Scope) (returns : Bool) (vs0 : ℕ → ℕ) (loop : Turning) (ts ts' : List Task) (ns inner : List ℕ) (j : Jump) (vs vs' : ℕ → ℕ)
-    → without_last inner ≡ ns → Exits at count n f returns vs0 ts ts' ns → (j ≡ ByReturn → returns ≡ true) → Alike count (edge_scope f) (fate_of (edge_scope f) j) vs0 vs vs'
+    → under inner ≡ ns → Exits at count n f returns vs0 ts ts' ns → (j ≡ ByReturn → returns ≡ true) → Alike count (edge_scope f) (fate_of (edge_scope f) j) vs0 vs vs'
     → Along at n (jumped j (Decide loop ∷ ts) vs inner) (state ts' vs' ns)
 leaves_edge at count n f returns vs0 loop ts ts' ns inner ByBreak vs vs' out exits by a =
     subst (λ ms. Along at n (state ts vs ms) (state ts' vs' ns)) (sym out) (exits.over Broken refl vs vs' a)
@@ -85,7 +87,7 @@ edge_dead f ByReturn = refl
 
 -- at the head
 over_at_head : (at : Setting) (count n : ℕ) (s : State) (f : Scope) (fate : Fate) (test : Operand) (head body st : Ops) (vs0 vs vs' : ℕ → ℕ) (ts' : List Task) (ns inner : List ℕ)
-    → Fine count f → live_bit fate ≡ 0 → without_last inner ≡ ns
+    → Fine count f → live_bit fate ≡ 0 → under inner ≡ ns
     → ((vs1 : ℕ → ℕ) → Alike count (edge_scope f) fate vs0 vs vs1 → Along at n s (state ts' vs1 ns))
     → Alike count (edge_scope f) fate vs0 vs vs' → Along at n s (state (head_tasks (loop_of f test head body st) ts') vs' inner)
 over_at_head at count n s f fate test head body st vs0 vs vs' ts' ns inner fine dead out next a =
@@ -95,7 +97,7 @@ over_at_head at count n s f fate test head body st vs0 vs vs' ts' ns inner fine 
 
 -- at the end of the body
 over_at_end : (at : Setting) (count n : ℕ) (s : State) (f : Scope) (fate : Fate) (test : Operand) (head body st : Ops) (vs0 vs vs' : ℕ → ℕ) (ts' : List Task) (ns inner : List ℕ)
-    → Fine count f → live_bit fate ≡ 0 → run_bit fate ≡ 0 → without_last inner ≡ ns
+    → Fine count f → live_bit fate ≡ 0 → run_bit fate ≡ 0 → under inner ≡ ns
     → ((vs1 : ℕ → ℕ) → Alike count (edge_scope f) fate vs0 vs vs1 → Along at n s (state ts' vs1 ns))
     → Alike count (body_scope f) fate vs0 vs vs' → Along at n s (state (Again (loop_of f test head body st) ∷ ts') vs' inner)
 over_at_end at count n s f fate test head body st vs0 vs vs' ts' ns inner fine dead ended out next b =
@@ -107,13 +109,13 @@ over_at_end at count n s f fate test head body st vs0 vs vs' ts' ns inner fine d
     (sets at n s (suc (inside f)) (VariableOf (inside f)) (ops_tasks (flagged false (edge_scope f) false st NoOps) (head_tasks loop' ts')) vs' (risen inner) 0
     (b.stands.run ∙ ended)
     (silent at st n s false (edge_scope f) vs1 NoOps (head_tasks loop' ts') (risen inner) (whole_inside f fine.ordered) (record { fate = fate; dead = dead; stands = a.stands })
-    (λ vs2 same. over_at_head at count n s f fate test head body st vs0 vs vs2 ts' ns (risen inner) fine dead (risen_gone inner ∙ out) next
+    (λ vs2 same. over_at_head at count n s f fate test head body st vs0 vs vs2 ts' ns (risen inner) fine dead (under_risen inner ∙ out) next
     (alike_same count (edge_scope f) fate vs0 vs vs1 vs2 (fine_edge count f fine) same a))
     vs1 (λ k below. refl)))
 
 -- behind the head
 over_at_test : (at : Setting) (count n : ℕ) (s : State) (f : Scope) (fate : Fate) (test : Operand) (head body st : Ops) (vs0 vs vs' : ℕ → ℕ) (ts' : List Task) (ns inner : List ℕ)
-    → Fine count f → live_bit fate ≡ 0 → without_last inner ≡ ns
+    → Fine count f → live_bit fate ≡ 0 → under inner ≡ ns
     → ((vs1 : ℕ → ℕ) → Alike count (edge_scope f) fate vs0 vs vs1 → Along at n s (state ts' vs1 ns))
     → Alike count (edge_scope f) fate vs0 vs vs' → Along at n s (state (ops_tasks (tests f test) (Decide (loop_of f test head body st) ∷ ts')) vs' inner)
 over_at_test at count n s f fate test head body st vs0 vs vs' ts' ns inner fine dead out next a =
@@ -137,21 +139,21 @@ record Parts (at : Setting) (count n : ℕ) (f : Scope) (test : Operand) (head b
 
 -- from the head on, with so many turns looked at
 abbrev HeadGoes : (at : Setting) (count : ℕ) (f : Scope) (test : Operand) (head body st : Ops) (ts ts' : List Task) (vs0 : ℕ → ℕ) (ns : List ℕ) (m : ℕ) → Type 0
-HeadGoes at count f test head body st ts ts' vs0 ns m = (inner : List ℕ) → without_last inner ≡ ns → (vs vs' : ℕ → ℕ) → Alike count (edge_scope f) Alive vs0 vs vs'
+HeadGoes at count f test head body st ts ts' vs0 ns m = (inner : List ℕ) → under inner ≡ ns → (vs vs' : ℕ → ℕ) → Alike count (edge_scope f) Alive vs0 vs vs'
     → Along at m (state (head_tasks (source_loop head test body st) ts) vs inner) (state (head_tasks (loop_of f test head body st) ts') vs' inner)
 
 -- the end of a turn that is over in both: the next begins alive
 again : (at : Setting) (count n : ℕ) (f : Scope) (test : Operand) (head body st : Ops) (ts ts' : List Task) (vs0 : ℕ → ℕ) (ns : List ℕ)
     → Parts at count n f test head body st ts ts' vs0 ns
     → (m : ℕ) → m ≤ n → HeadGoes at count f test head body st ts ts' vs0 ns m
-    → (fate : Fate) (inner : List ℕ) (vs vs' : ℕ → ℕ) → without_last inner ≡ ns → run_bit fate ≡ 1 → whole_bit fate ≡ 1 → Alike count (body_scope f) fate vs0 vs vs'
+    → (fate : Fate) (inner : List ℕ) (vs vs' : ℕ → ℕ) → under inner ≡ ns → run_bit fate ≡ 1 → whole_bit fate ≡ 1 → Alike count (body_scope f) fate vs0 vs vs'
     → Along at m (state (Again (source_loop head test body st) ∷ ts) vs inner) (state (Again (loop_of f test head body st) ∷ ts') vs' inner)
 again at count n f test head body st ts ts' vs0 ns parts m le turns fate inner vs vs' out goes goes' b =
     let loop : Turning = source_loop head test body st in
     let loop' : Turning = loop_of f test head body st in
     let vs1' : ℕ → ℕ = put_at (suc (inside f)) 1 vs' in
     let alive_again : Alike count (edge_scope f) Alive vs0 vs vs1' = revived count f fate Alive vs0 vs vs' 1 parts.fine refl goes goes' (to_edge count f fate vs0 vs vs' b) in
-    let out' : without_last (risen inner) ≡ ns = risen_gone inner ∙ out in
+    let out' : under (risen inner) ≡ ns = under_risen inner ∙ out in
     BothGo m (state (Again loop ∷ ts) vs inner) (state (step_tasks loop ts) vs (risen inner)) (state (Again loop' ∷ ts') vs' inner) (state (step_tasks loop' ts') vs' (risen inner))
     refl refl (omega arith)
     (sets at m (state (step_tasks loop ts) vs (risen inner)) (suc (inside f)) (VariableOf (inside f))
@@ -172,7 +174,7 @@ again at count n f test head body st ts ts' vs0 ns parts m le turns fate inner v
 -- a jump leaves the body
 body_left : (at : Setting) (count n : ℕ) (f : Scope) (test : Operand) (head body st : Ops) (ts ts' : List Task) (vs0 : ℕ → ℕ) (ns : List ℕ)
     → Parts at count n f test head body st ts ts' vs0 ns
-    → (m : ℕ) → m ≤ n → HeadGoes at count f test head body st ts ts' vs0 ns m → (inner : List ℕ) → without_last inner ≡ ns
+    → (m : ℕ) → m ≤ n → HeadGoes at count f test head body st ts ts' vs0 ns m → (inner : List ℕ) → under inner ≡ ns
     → Leave at count m (body_scope f) vs0 (λ j. leaves j body) (Again (source_loop head test body st) ∷ ts) (Again (loop_of f test head body st) ∷ ts') inner
 body_left at count n f test head body st ts ts' vs0 ns parts m le turns inner out ByContinue left vs vs' b =
     again at count n f test head body st ts ts' vs0 ns parts m le turns Skipped inner vs vs' out refl refl b
@@ -189,7 +191,7 @@ body_left at count n f test head body st ts ts' vs0 ns parts m le turns inner ou
 -- the test: both leave the loop, or both begin a turn
 tested : (at : Setting) (count n : ℕ) (f : Scope) (test : Operand) (head body st : Ops) (ts ts' : List Task) (vs0 : ℕ → ℕ) (ns : List ℕ)
     → Parts at count n f test head body st ts ts' vs0 ns
-    → (m : ℕ) → suc m ≤ n → HeadGoes at count f test head body st ts ts' vs0 ns m → (inner : List ℕ) → without_last inner ≡ ns
+    → (m : ℕ) → suc m ≤ n → HeadGoes at count f test head body st ts ts' vs0 ns m → (inner : List ℕ) → under inner ≡ ns
     → (vs vs' : ℕ → ℕ) → Alike count (edge_scope f) Alive vs0 vs vs'
     → Along at (suc m) (state (Decide (source_loop head test body st) ∷ ts) vs inner) (state (ops_tasks (tests f test) (Decide (loop_of f test head body st) ∷ ts')) vs' inner)
 tested at count n f test head body st ts ts' vs0 ns parts m le turns inner out vs vs' a =
@@ -313,4 +315,4 @@ flagged_follows at count n f sure test head body st c ts ts' vs0 vs vs' ns fine 
     (BothGo n s (state (head_tasks loop ts) vs (entered ns)) (state (Do (Loop loop'.head loop'.test loop'.body loop'.step) ∷ tsx) vs1 ns)
     (state (head_tasks loop' tsx) vs1 (entered ns))
     refl refl (omega arith)
-    (turns_go at count n f test head body st ts tsx vs1 ns parts n (omega arith) (entered ns) (last_gone ns 0) vs vs1 (begun_alive count f vs0 vs vs' fine a))))
+    (turns_go at count n f test head body st ts tsx vs1 ns parts n (omega arith) (entered ns) refl vs vs1 (begun_alive count f vs0 vs vs' fine a))))

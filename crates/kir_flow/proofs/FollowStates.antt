@@ -1,6 +1,6 @@
 -- Variables of a kernel with jumps and of the same with flags while both go along, and single operations in both.
 use Rattle.std.proofs.Common.{◌≡◌, ◌≢◌, ℕ, ◌<◌, ◌≤◌, ◌^◌, Bool, true, false, nat_lt, List, ◌∷◌, refl, ap, sym, ◌∙◌, subst, arith, inl, inr, true≢false}
-use Rattle.std.specs.Prelude.{if◌then◌else◌}
+use Rattle.std.specs.Prelude.{if◌then◌else◌, reverse}
 use Rattle.std.proofs.lemmas.Bool.{cases_eq}
 use Rattle.vx_base.specs.Values.{alu_value_of, fitted}
 use Rattle.vx_base.proofs.ValueLaws.{alu_value_of-lt, fitted-lt}
@@ -250,7 +250,7 @@ single_follows at count n f fate (Store array elem a b) ts ts' vs0 vs vs' ns sin
 single_follows at count n f fate (Check array a pos) ts ts' vs0 vs vs' ns single gives fine small next alike =
     checks_both at n array a pos ts ts' vs vs' ns (value_same count f vs0 vs vs' a alike.rest small) (next vs vs' alike)
 single_follows at count n f fate (Barrier site) ts ts' vs0 vs vs' ns single gives fine small next alike =
-    BothAsk n (state (Do (Barrier site) ∷ ts) vs ns) (state (Do (Barrier site) ∷ ts') vs' ns) (BarrierAction (record { site = site; turns = ns }))
+    BothAsk n (state (Do (Barrier site) ∷ ts) vs ns) (state (Do (Barrier site) ∷ ts') vs' ns) (BarrierAction (record { site = site; turns = reverse ns }))
     (λ answer. state ts vs ns) (λ answer. state ts' vs' ns) refl refl (omega arith) (λ answer. next vs vs' alike)
 single_follows at count n f fate (If test one other) ts ts' vs0 vs vs' ns single gives fine small next alike = absurd (true≢false (sym single))
 single_follows at count n f fate (Loop head test body st) ts ts' vs0 vs vs' ns single gives fine small next alike = absurd (true≢false (sym single))

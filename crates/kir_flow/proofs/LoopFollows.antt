@@ -6,9 +6,11 @@ use Rattle.item_acts.specs.Machine.{Go}
 use Rattle.item_settings.specs.Settings.{Setting}
 use Rattle.step_machine.specs.Sims.{Unseen, BothGo, BothTurn}
 use Rattle.step_machine.proofs.AlongLaws.{fewer}
-use Rattle.kir.specs.Machine.{state, Task, Do, Decide, Again, Turning, value, step, cost, ops_tasks, turn_tasks, head_tasks, step_tasks, entered, without_last, risen}
+use Rattle.step_machine.specs.Stacks.{under}
+use Rattle.step_machine.specs.Turns.{risen}
+use Rattle.step_machine.proofs.TurnLaws.{under_risen}
+use Rattle.kir.specs.Machine.{state, Task, Do, Decide, Again, Turning, value, step, cost, ops_tasks, turn_tasks, head_tasks, step_tasks, entered}
 use Rattle.kir.specs.Trees.{Operand, NumberOf, Set, Loop, Ops, NoOps, AndOp}
-use Rattle.kir.proofs.TurnLaws.{last_gone}
 use Rattle.kir_flow.specs.declared.scopes.Scope.{Scope}
 use Rattle.kir_flow.specs.declared.scopes.Jump.TheVariants.{ByBreak, ByContinue, ByReturn}
 use Rattle.kir_flow.specs.declared.scopes.Scope.TheVariants.{InCall}
@@ -18,20 +20,11 @@ use Rattle.kir_flow.proofs.FlagStates.{Along, Alive, Returned, sets}
 use Rattle.kir_flow.proofs.FollowStates.{Fine, Alike, value_same, Next, Leave, Follows}
 use Rattle.kir_flow.proofs.StraightFollows.{left_by, fine_inside, alike_inside, alike_outside}
 
--- ---- numbers of turns
-
--- one more turn of a loop that is left makes no difference
-pub risen_gone : (ns : List ℕ) → without_last (risen ns) ≡ without_last ns
-risen_gone [] = refl
-risen_gone (n ∷ []) = refl
-risen_gone (n ∷ m ∷ []) = refl
-risen_gone (n ∷ m ∷ k ∷ ns) = ap (λ xs. n ∷ xs) (risen_gone (m ∷ k ∷ ns))
-
 -- ---- the test of a loop
 
 -- both loops are left, or both begin a turn
 pub decides : (at : Setting) (m : ℕ) (loop loop' : Turning) (ts ts' : List Task) (vs vs' : ℕ → ℕ) (ns : List ℕ) → value vs' loop'.test ≡ value vs loop.test
-    → (value vs loop.test ≡ 0 → Along at (suc m) (state ts vs (without_last ns)) (state ts' vs' (without_last ns)))
+    → (value vs loop.test ≡ 0 → Along at (suc m) (state ts vs (under ns)) (state ts' vs' (under ns)))
     → Along at m (state (turn_tasks loop ts) vs ns) (state (turn_tasks loop' ts') vs' ns)
     → Along at (suc m) (state (Decide loop ∷ ts) vs ns) (state (Decide loop' ∷ ts') vs' ns)
 decides at m loop loop' ts ts' vs vs' ns e leave turn = by_value (value vs loop.test) refl
@@ -39,9 +32,9 @@ decides at m loop loop' ts ts' vs vs' ns e leave turn = by_value (value vs loop.
     by_value : (x : ℕ) → value vs loop.test ≡ x → Along at (suc m) (state (Decide loop ∷ ts) vs ns) (state (Decide loop' ∷ ts') vs' ns)
     by_value zero e' =
         let free : cost (state (Decide loop' ∷ ts') vs' ns) ≡ 0 = ap (λ y. if y == 0 then 0 else 1) (e ∙ e') in
-        BothGo (suc m) (state (Decide loop ∷ ts) vs ns) (state ts vs (without_last ns)) (state (Decide loop' ∷ ts') vs' ns) (state ts' vs' (without_last ns))
-        (ap (λ y. Go (if y == 0 then state ts vs (without_last ns) else state (turn_tasks loop ts) vs ns)) e')
-        (ap (λ y. Go (if y == 0 then state ts' vs' (without_last ns) else state (turn_tasks loop' ts') vs' ns)) (e ∙ e'))
+        BothGo (suc m) (state (Decide loop ∷ ts) vs ns) (state ts vs (under ns)) (state (Decide loop' ∷ ts') vs' ns) (state ts' vs' (under ns))
+        (ap (λ y. Go (if y == 0 then state ts vs (under ns) else state (turn_tasks loop ts) vs ns)) e')
+        (ap (λ y. Go (if y == 0 then state ts' vs' (under ns) else state (turn_tasks loop' ts') vs' ns)) (e ∙ e'))
         (omega arith) (leave e')
     by_value (suc x) e' =
         let differs : (value vs loop.test == 0) ≡ false = ne_eqb (value vs loop.test) 0 (λ e''. absurd (omega arith)) in
@@ -49,8 +42,8 @@ decides at m loop loop' ts ts' vs vs' ns e leave turn = by_value (value vs loop.
         let one : cost (state (Decide loop ∷ ts) vs ns) ≡ 1 = ap (λ (b : Bool). if b then 0 else 1) differs in
         let one' : cost (state (Decide loop' ∷ ts') vs' ns) ≡ 1 = ap (λ (b : Bool). if b then 0 else 1) differs' in
         BothTurn m (state (Decide loop ∷ ts) vs ns) (state (turn_tasks loop ts) vs ns) (state (Decide loop' ∷ ts') vs' ns) (state (turn_tasks loop' ts') vs' ns)
-        (ap (λ (b : Bool). Go (if b then state ts vs (without_last ns) else state (turn_tasks loop ts) vs ns)) differs)
-        (ap (λ (b : Bool). Go (if b then state ts' vs' (without_last ns) else state (turn_tasks loop' ts') vs' ns)) differs')
+        (ap (λ (b : Bool). Go (if b then state ts vs (under ns) else state (turn_tasks loop ts) vs ns)) differs)
+        (ap (λ (b : Bool). Go (if b then state ts' vs' (under ns) else state (turn_tasks loop' ts') vs' ns)) differs')
         (omega arith) turn
 
 -- ---- loops that no jump leaves
@@ -72,7 +65,7 @@ turning : (at : Setting) (count n : ℕ) (f : Scope) (test : Operand) (head body
     → Fine count f → IsBelow count test → is_left head ≡ false → is_left st ≡ false
     → Follows at count head → Follows at count st → BodyGoes at count f vs0 body body' (Again (source_loop head test body st) ∷ ts) (Again (plain_loop f head test body' st) ∷ ts')
     → Next at count n f vs0 ts ts' ns
-    → (m : ℕ) → m ≤ n → (inner : List ℕ) → without_last inner ≡ ns → (vs vs' : ℕ → ℕ) → Alike count f Alive vs0 vs vs'
+    → (m : ℕ) → m ≤ n → (inner : List ℕ) → under inner ≡ ns → (vs vs' : ℕ → ℕ) → Alike count f Alive vs0 vs vs'
     → Along at m (state (head_tasks (source_loop head test body st) ts) vs inner) (state (head_tasks (plain_loop f head test body' st) ts') vs' inner)
 turning at count n f test head body st body' ts ts' vs0 ns fine below kept kept' heads steps bodies next zero le inner out vs vs' alike =
     Unseen (state (head_tasks (source_loop head test body st) ts) vs inner) (state (head_tasks (plain_loop f head test body' st) ts') vs' inner)
@@ -89,7 +82,7 @@ turning at count n f test head body st body' ts ts' vs0 ns fine below kept kept'
     refl refl (omega arith)
     (steps m f true NoOps (head_tasks loop ts) (head_tasks loop' ts') vs0 vs2 vs2' (risen inner) fine
     (λ vs3 vs3' d. turning at count n f test head body st body' ts ts' vs0 ns fine below kept kept' heads steps bodies next m (omega arith) (risen inner)
-    (risen_gone inner ∙ out) vs3 vs3' d)
+    (under_risen inner ∙ out) vs3 vs3' d)
     (λ j left. absurd (true≢false (sym (left_by j st left) ∙ kept')))
     b))))
     (λ j left. absurd (true≢false (sym (left_by j head left) ∙ kept)))
@@ -109,7 +102,7 @@ loop_goes at count n f test head body st body' ts ts' vs0 vs vs' ns fine below k
     (state (Do (Loop (flagged false f true head NoOps) test body' (flagged false f true st NoOps)) ∷ ts') vs' ns) (state (head_tasks loop' ts') vs' (entered ns)) refl refl
     (omega arith)
     (turning at count n f test head body st body' ts ts' vs0 ns fine below kept kept' heads steps (bodies loop loop') next n (omega arith) (entered ns)
-    (last_gone ns 0) vs vs' alike)
+    refl vs vs' alike)
 
 -- one without jumps in its body
 pub plain_follows : (at : Setting) (count n : ℕ) (f : Scope) (test : Operand) (head body st : Ops) (ts ts' : List Task) (vs0 vs vs' : ℕ → ℕ) (ns : List ℕ)

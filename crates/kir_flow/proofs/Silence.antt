@@ -8,10 +8,10 @@ use Rattle.item_acts.specs.Launches.{put_at}
 use Rattle.item_acts.proofs.Launches.{put_at_same, put_at_other}
 use Rattle.item_settings.specs.Settings.{Setting}
 use Rattle.step_machine.specs.Sims.{SecondGoes}
-use Rattle.kir.specs.Machine.{State, state, Task, Do, Decide, Turning, value, ops_tasks, head_tasks, entered, without_last}
+use Rattle.step_machine.specs.Stacks.{under}
+use Rattle.kir.specs.Machine.{State, state, Task, Do, Decide, Turning, value, ops_tasks, head_tasks, entered}
 use Rattle.kir.specs.Measures.{is_single}
 use Rattle.kir.specs.Trees.{Operand, VariableOf, NumberOf, Op, Set, Calculate, Fit, Id, Load, Store, Check, Barrier, If, Loop, Break, Continue, Return, Call, Ops, NoOps, AndOp}
-use Rattle.kir.proofs.TurnLaws.{last_gone}
 use Rattle.kir_flow.specs.declared.scopes.Jump.{Jump}
 use Rattle.kir_flow.specs.declared.scopes.Scope.{Scope}
 use Rattle.kir_flow.specs.declared.scopes.Jump.TheVariants.{ByBreak, ByContinue, ByReturn}
@@ -113,7 +113,7 @@ loop_of f test head body step = record {
 }
 
 pub quiet_head : (at : Setting) (n : ℕ) (s : State) (f : Scope) (test : Operand) (head body step : Ops) (vs0 : ℕ → ℕ) (ts : List Task) (ns : List ℕ)
-    → Silent at head → Ordered f → Down (edge_scope f) vs0 → Quiet at n s (suc (suc (inside f))) vs0 ts (without_last ns)
+    → Silent at head → Ordered f → Down (edge_scope f) vs0 → Quiet at n s (suc (suc (inside f))) vs0 ts (under ns)
     → Quiet at n s (suc (suc (inside f))) vs0 (head_tasks (loop_of f test head body step) ts) ns
 quiet_head at n s f test head body step vs0 ts ns silent ordered down next =
     silent n s false (edge_scope f) vs0 (tests f test) (Decide (loop_of f test head body step) ∷ ts) ns (whole_inside f ordered) down
@@ -175,9 +175,8 @@ silent_loop at n s f test head body step vs0 c ts ns silent ordered down next vs
     let behind : Quiet at n s (inside f) vs0 (ops_tasks after ts) ns =
     cond_both returns (passed_on f c) c (λ x. Quiet at n s (inside f) vs0 (ops_tasks x ts) ns)
     (λ e. quiet_passed at n s f vs0 c ts ns down.fate ordered down.stands next) (λ e. next) in
-    let out : Quiet at n s (suc (suc (inside f))) vs1 (ops_tasks after ts) (without_last (entered ns)) =
-    λ vs2 same2. subst (λ ms. Along at n s (state (ops_tasks after ts) vs2 ms)) (sym (last_gone ns 0))
-    (behind vs2 (narrow (inside f) (suc (suc (inside f))) vs0 vs1 vs2 (omega arith) same1 same2)) in
+    let out : Quiet at n s (suc (suc (inside f))) vs1 (ops_tasks after ts) (under (entered ns)) =
+    λ vs2 same2. behind vs2 (narrow (inside f) (suc (suc (inside f))) vs0 vs1 vs2 (omega arith) same1 same2) in
     sets at n s (inside f) (VariableOf (live f))
     (Do (Set (suc (inside f)) (VariableOf (inside f))) ∷ Do (Loop loop.head loop.test loop.body loop.step) ∷ ops_tasks after ts) vs ns 0 dead
     (sets at n s (suc (inside f)) (VariableOf (inside f)) (Do (Loop loop.head loop.test loop.body loop.step) ∷ ops_tasks after ts) (put_at (inside f) 0 vs) ns 0

@@ -11,7 +11,8 @@ ghost use Rattle.kir_flow.specs.WithoutJumps.{WithoutJumps};
 use crate::flagging::push_flagged;
 use crate::leaving::{both, is_flagged, is_left, leaves, op_is_left};
 use crate::scopes::{Jump, Scope};
-use kir::{Kir, Op, Operand, copied_params, put_set};
+use item_settings::copied_params;
+use kir::{Kir, Op, Operand, put_set};
 use std::alloc::{AllocError, Global};
 use vx_base::Memory;
 

@@ -8,7 +8,9 @@ use Rattle.ocl_sem.specs.Items.{ItemState}
 use Rattle.item_settings.specs.Settings.{Setting}
 use Rattle.ocl_sem.specs.Source.{PlacedExpr, PlacedStmt, SourceTask, SourceLoop, source_parts}
 use Rattle.task_machine.specs.declared.tasks.Task.TheVariants as task
-use Rattle.task_machine.specs.Tasks.{top, under, onward, holding, turning, optional, returned, left, continued, load_step, store_step, headed, turned, risen, task_step, step_from}
+use Rattle.step_machine.specs.Stacks.{top, under}
+use Rattle.step_machine.specs.Turns.{risen}
+use Rattle.task_machine.specs.Tasks.{onward, holding, turning, optional, returned, left, continued, load_step, store_step, headed, turned, task_step, step_from}
 use Rattle.ocl_inline.specs.FlatTasks.{FlatTask, flat_parts}
 use Rattle.ocl_inline.specs.Expansion.{Bodies}
 use Rattle.ocl_inline.specs.Mapping.{FlatState, expr_at, stmt_at, loop_at, task_at, tasks_at, state_at, step_at}

@@ -10,14 +10,14 @@ ghost use Rattle.ocl_inline.specs.Shapes.{flat_trees, kernel_of};
 
 use crate::expansion::expand_stmts;
 use crate::trees::{Flat, FlatStmt};
-use ocl_ast::{Ident, Param, ParamList};
+use item_settings::copied_params;
 use ocl_measures::rounds::totals_at;
 use ocl_measures::sizes::Totals;
 use ocl_program::TypedFunction;
 use ocl_sem::scopes::Scope;
 use ocl_types::Program;
 use std::alloc::Global;
-use vx_base::{Memory, Text};
+use vx_base::Memory;
 
 /// A function of a program with all its calls expanded: its items ask for what the function's ask for, at every number of steps.
 /// Of a kernel, each barrier has a number of its own, variables are numbered below their count, and the measures are those that
@@ -80,45 +80,4 @@ fn expand_body<'a>(
     let levels = functions.len();
     let body = expand_stmts(alloc, functions, &scope, levels, kernel.body.as_slice())?;
     Ok(body)
-}
-
-/// Parameters once more.
-fn copied_params(alloc: Global, params: &[Param]) -> Result<ParamList, Memory>
-    ensures { IfOk result (λ copy. copy ≡ params.now) }
-{
-    let mut items = Vec::new(alloc);
-    for param in params {
-        match copied_param(alloc, param) {
-            Ok(copy) => match items.push(copy) {
-                Ok(()) => {}
-                Err(_full) => return Err(Memory),
-            },
-            Err(fault) => return Err(fault),
-        }
-    }
-    Ok(ParamList { items })
-}
-
-/// A parameter once more.
-fn copied_param(alloc: Global, param: &Param) -> Result<Param, Memory>
-    ensures { IfOk result (λ copy. copy ≡ param.now) }
-{
-    let name = copied_name(alloc, &param.name)?;
-    Ok(Param {
-        name,
-        kind: param.kind,
-        constant: param.constant,
-    })
-}
-
-/// A name once more.
-fn copied_name(alloc: Global, name: &Ident) -> Result<Ident, Memory>
-    ensures { IfOk result (λ copy. copy ≡ name.now) }
-{
-    let items = name.text.as_slice().to_vec(alloc)?;
-    let text = Text { items };
-    Ok(Ident {
-        text,
-        pos: name.pos,
-    })
 }

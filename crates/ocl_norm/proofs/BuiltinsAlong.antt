@@ -1,6 +1,6 @@
 -- Built-in functions in both.
 use Rattle.std.proofs.Common.{◌≡◌, ℕ, suc, ◌<◌, ◌≤◌, ◌^◌, Bool, true, false, ◌||◌, List, ◌∷◌, refl, ◌∙◌, arith}
-use Rattle.std.specs.Prelude.{reverse, if◌then◌else◌}
+use Rattle.std.specs.Prelude.{if◌then◌else◌}
 use Rattle.vx_base.specs.Values.{alu_value_of}
 use Rattle.vx_base.proofs.ValueLaws.{alu_value_of-lt}
 use Rattle.vx_base.specs.declared.types.Alu.TheVariants as alu
@@ -109,8 +109,8 @@ none_gives at count unsigned words n d c ts ts' values vs vs' us le alike next =
     let x : ℕ = known_of at builtin.WorkDim 0 in
     let vs1' : ℕ → ℕ = put_at d x vs' in
     FirstGoes n (flat_state (task.Call builtin.WorkDim unsigned ∷ ts) values vs us) (flat_state ts (x ∷ values) vs us)
-    (state (ops_tasks (AndOp (Id d builtin.WorkDim (NumberOf 0)) c) ts') vs' (reverse us)) refl
-    (learns at n (flat_state ts (x ∷ values) vs us) d builtin.WorkDim (NumberOf 0) (ops_tasks c ts') vs' (reverse us) 0 refl
+    (state (ops_tasks (AndOp (Id d builtin.WorkDim (NumberOf 0)) c) ts') vs' us) refl
+    (learns at n (flat_state ts (x ∷ values) vs us) d builtin.WorkDim (NumberOf 0) (ops_tasks c ts') vs' us 0 refl
     (next x vs vs1' (alike_kept count d d vs' vs vs' vs1' le (omega arith) (kept_put d d x vs' (omega arith)) alike) (λ e. refl) (put_at_same d x vs') (words builtin.WorkDim 0)))
 
 -- a function of a dimension
@@ -127,8 +127,8 @@ id_gives at count which unsigned x words gives first n d c ts ts' values vs vs' 
     let z : ℕ = known_of at which v in
     let vs2' : ℕ → ℕ = put_at d z vs1' in
     FirstGoes n (flat_state (task.Call which unsigned ∷ ts) (v ∷ values) vs1 us) (flat_state ts (z ∷ values) vs1 us)
-    (state (ops_tasks (AndOp (Id d which (operand_at (standing x) d)) c) ts') vs1' (reverse us)) (first v ts values vs1 us)
-    (learns at n (flat_state ts (z ∷ values) vs1 us) d which (operand_at (standing x) d) (ops_tasks c ts') vs1' (reverse us) v e
+    (state (ops_tasks (AndOp (Id d which (operand_at (standing x) d)) c) ts') vs1' us) (first v ts values vs1 us)
+    (learns at n (flat_state ts (z ∷ values) vs1 us) d which (operand_at (standing x) d) (ops_tasks c ts') vs1' us v e
     (next z vs1 vs2' (alike_kept count d d vs' vs1 vs1' vs2' le (omega arith) (kept_put d d z vs1' (omega arith)) a) (λ none. same (not_first (calls x) false none))
     (put_at_same d z vs1') (words which v))))
 
@@ -139,8 +139,8 @@ abs_gives at count unsigned x gives stands n d c ts ts' values vs vs' us le alik
     (λ v vs1 vs1' a same e word.
     let z : ℕ = magnitude unsigned v in
     FirstGoes n (flat_state (task.Call builtin.Abs unsigned ∷ ts) (v ∷ values) vs1 us) (flat_state ts (z ∷ values) vs1 us)
-    (state (ops_tasks (magnitude_ops unsigned (operand_at (standing x) d) d c) ts') vs1' (reverse us)) refl
-    (magnitude_holds at n (flat_state ts (z ∷ values) vs1 us) unsigned (operand_at (standing x) d) d c ts' vs1' (reverse us) v (operand_under count d (standing x) le stands) word e
+    (state (ops_tasks (magnitude_ops unsigned (operand_at (standing x) d) d c) ts') vs1' us) refl
+    (magnitude_holds at n (flat_state ts (z ∷ values) vs1 us) unsigned (operand_at (standing x) d) d c ts' vs1' us v (operand_under count d (standing x) le stands) word e
     (λ vs2' kept at2. next z vs1 vs2' (alike_kept count d d vs' vs1 vs1' vs2' le (omega arith) kept a) (λ none. same (not_first (calls x) false none)) at2
     (magnitude_word unsigned v word))))
 
@@ -174,7 +174,7 @@ three_gives at count unsigned x b y b' z b'' gives stands gives' stands' gives''
     n d (greatest_ops unsigned p q d (value_ops z (suc d) least)) (value_tasks z (task.Call builtin.Clamp unsigned ∷ ts)) ts' values vs vs' us le alike
     (λ v w vs1 vs1' a same e e' word word'.
     let m : ℕ = greatest_of unsigned v w in
-    greatest_holds at n (flat_state (value_tasks z (task.Call builtin.Clamp unsigned ∷ ts)) (w ∷ v ∷ values) vs1 us) unsigned p q d (value_ops z (suc d) least) ts' vs1' (reverse us) v w
+    greatest_holds at n (flat_state (value_tasks z (task.Call builtin.Clamp unsigned ∷ ts)) (w ∷ v ∷ values) vs1 us) unsigned p q d (value_ops z (suc d) least) ts' vs1' us v w
     (held_under count d (calls y) (standing x) le stands)
     (under_more (suc first) (suc (suc d)) q (omega arith) (operand_under count first (standing y) (omega arith) stands')) word word' e e'
     (λ vs2' kept at2.
@@ -183,8 +183,8 @@ three_gives at count unsigned x b y b' z b'' gives stands gives' stands' gives''
     (λ u vs3 vs3' b3 same' e'' word''.
     let k : ℕ = clamped unsigned v w u in
     FirstGoes n (flat_state (task.Call builtin.Clamp unsigned ∷ ts) (u ∷ w ∷ v ∷ values) vs3 us) (flat_state ts (k ∷ values) vs3 us)
-    (state (ops_tasks least ts') vs3' (reverse us)) refl
-    (least_holds at n (flat_state ts (k ∷ values) vs3 us) unsigned (VariableOf d) r d c ts' vs3' (reverse us) m u (omega arith)
+    (state (ops_tasks least ts') vs3' us) refl
+    (least_holds at n (flat_state ts (k ∷ values) vs3 us) unsigned (VariableOf d) r d c ts' vs3' us m u (omega arith)
     (operand_under count (suc d) (standing z) (omega arith) stands'') (greatest_word unsigned v w word word') word'' (b3.frame d le (omega arith) ∙ at2) e''
     (λ vs4' kept' at4. next k vs3 vs4'
     (alike_kept count d d vs' vs3 vs3' vs4' le (omega arith) kept' (alike_on count d (suc d) vs' vs1 vs2' vs3 vs3' (omega arith) a2 b3))

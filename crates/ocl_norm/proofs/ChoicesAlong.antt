@@ -1,6 +1,6 @@
 -- `&&`, `||` and `?:` in both: the flat machine chooses which part it evaluates, and the normal form branches.
 use Rattle.std.proofs.Common.{◌≡◌, ◌≢◌, ℕ, zero, suc, ◌<◌, ◌≤◌, ◌^◌, Bool, true, false, ◌||◌, List, ◌∷◌, refl, ap, sym, ◌∙◌, arith, ne_eqb}
-use Rattle.std.specs.Prelude.{reverse, if◌then◌else◌, ◌==◌}
+use Rattle.std.specs.Prelude.{if◌then◌else◌, ◌==◌}
 use Rattle.item_acts.specs.Launches.{put_at}
 use Rattle.item_acts.specs.Machine.{Go}
 use Rattle.item_acts.proofs.Launches.{put_at_same}
@@ -26,7 +26,7 @@ ValueGoes at count e = Gives at count (value_tasks e) (value_ops e) (standing e)
 abbrev pub BehindValue : Setting → ℕ → Standing → Bool → (n d : ℕ) → Ops → List FlatTask → List Task → List ℕ → (ℕ → ℕ) → (ℕ → ℕ) → List ℕ → Type 0
 BehindValue at count s calls n d c ts ts' values vs vs' us =
     (v : ℕ) (vs1 vs1' : ℕ → ℕ) → Alike count d vs' vs1 vs1' → (calls ≡ false → vs1 ≡ vs) → value vs1' (operand_at s d) ≡ v → v < 2 ^ 32
-    → Along at n (flat_state ts (v ∷ values) vs1 us) (state (ops_tasks c ts') vs1' (reverse us))
+    → Along at n (flat_state ts (v ∷ values) vs1 us) (state (ops_tasks c ts') vs1' us)
 
 -- ---- values that are 1 or 0
 
@@ -48,7 +48,7 @@ truth_goes : (at : Setting) (count : ℕ) (right : FlatExpr) → ValueGoes at co
     → (n d : ℕ) (c : Ops) (ts : List FlatTask) (ts' : List Task) (values : List ℕ) (vs0 vs0' vs vs' : ℕ → ℕ) (us : List ℕ) (before : Bool) → count ≤ d
     → Alike count d vs0' vs vs' → (before ≡ false → vs ≡ vs0) → BehindValue at count Made (before || calls right) n d c ts ts' values vs0 vs0' us
     → Along at n (flat_state (value_tasks right (task.Truth ∷ ts)) values vs us)
-    (state (ops_tasks (value_ops right (suc d) (truth_ops (operand_at (standing right) (suc d)) d NoOps)) (ops_tasks c ts')) vs' (reverse us))
+    (state (ops_tasks (value_ops right (suc d) (truth_ops (operand_at (standing right) (suc d)) d NoOps)) (ops_tasks c ts')) vs' us)
 truth_goes at count right gives n d c ts ts' values vs0 vs0' vs vs' us before le alike same next =
     gives n (suc d) (truth_ops (operand_at (standing right) (suc d)) d NoOps) (task.Truth ∷ ts) (ops_tasks c ts') values vs vs' us (omega arith)
     (alike_self count d vs0' vs vs' (suc d) alike)
@@ -56,8 +56,8 @@ truth_goes at count right gives n d c ts ts' values vs0 vs0' vs vs' us before le
     let z : ℕ = if w == 0 then 0 else 1 in
     let b1 : Alike count d vs0' vs1 vs1' = alike_on count d (suc d) vs0' vs vs' vs1 vs1' (omega arith) alike b in
     FirstGoes n (flat_state (task.Truth ∷ ts) (w ∷ values) vs1 us) (flat_state ts (z ∷ values) vs1 us)
-    (state (ops_tasks (truth_ops (operand_at (standing right) (suc d)) d NoOps) (ops_tasks c ts')) vs1' (reverse us)) refl
-    (truth_holds at n (flat_state ts (z ∷ values) vs1 us) (operand_at (standing right) (suc d)) d NoOps (ops_tasks c ts') vs1' (reverse us) w e
+    (state (ops_tasks (truth_ops (operand_at (standing right) (suc d)) d NoOps) (ops_tasks c ts')) vs1' us) refl
+    (truth_holds at n (flat_state ts (z ∷ values) vs1 us) (operand_at (standing right) (suc d)) d NoOps (ops_tasks c ts') vs1' us w e
     (λ vs2' kept at2. next z vs1 vs2' (alike_kept count d d vs0' vs1 vs1' vs2' le (omega arith) kept b1)
     (λ none. same' (not_second before (calls right) none) ∙ same (not_first before (calls right) none)) at2 (truth_word w))))
   where
@@ -69,23 +69,23 @@ both_goes at count left right gives gives' n d c ts ts' values vs vs' us le alik
     let rest : Ops = AndOp (If (VariableOf d) (value_ops right (suc d) (truth_ops (operand_at (standing right) (suc d)) d NoOps)) NoOps) c in
     gives n d (truth_ops (operand_at (standing left) d) d rest) (task.AndThen right ∷ ts) ts' values vs vs' us le alike
     (λ v vs1 vs1' a same e word.
-    truth_holds at n (flat_state (task.AndThen right ∷ ts) (v ∷ values) vs1 us) (operand_at (standing left) d) d rest ts' vs1' (reverse us) v e
+    truth_holds at n (flat_state (task.AndThen right ∷ ts) (v ∷ values) vs1 us) (operand_at (standing left) d) d rest ts' vs1' us v e
     (λ vs2' kept at2. by_value v vs1 vs2' (alike_kept count d d vs' vs1 vs1' vs2' le (omega arith) kept a) same at2))
   where
     by_value : (v : ℕ) (vs1 vs2' : ℕ → ℕ) → Alike count d vs' vs1 vs2' → (calls left ≡ false → vs1 ≡ vs) → vs2' d ≡ (if v == 0 then 0 else 1)
         → Along at n (flat_state (task.AndThen right ∷ ts) (v ∷ values) vs1 us)
-        (state (Do (If (VariableOf d) (value_ops right (suc d) (truth_ops (operand_at (standing right) (suc d)) d NoOps)) NoOps) ∷ ops_tasks c ts') vs2' (reverse us))
+        (state (Do (If (VariableOf d) (value_ops right (suc d) (truth_ops (operand_at (standing right) (suc d)) d NoOps)) NoOps) ∷ ops_tasks c ts') vs2' us)
     by_value zero vs1 vs2' a same at2 =
         takes_other at n (flat_state (task.AndThen right ∷ ts) (0 ∷ values) vs1 us) (VariableOf d)
-        (value_ops right (suc d) (truth_ops (operand_at (standing right) (suc d)) d NoOps)) NoOps (ops_tasks c ts') vs2' (reverse us) at2
-        (FirstGoes n (flat_state (task.AndThen right ∷ ts) (0 ∷ values) vs1 us) (flat_state ts (0 ∷ values) vs1 us) (state (ops_tasks c ts') vs2' (reverse us)) refl
+        (value_ops right (suc d) (truth_ops (operand_at (standing right) (suc d)) d NoOps)) NoOps (ops_tasks c ts') vs2' us at2
+        (FirstGoes n (flat_state (task.AndThen right ∷ ts) (0 ∷ values) vs1 us) (flat_state ts (0 ∷ values) vs1 us) (state (ops_tasks c ts') vs2' us) refl
         (next 0 vs1 vs2' a (λ none. same (not_first (calls left) (calls right) none)) at2 (omega arith)))
     by_value (suc v) vs1 vs2' a same at2 =
         let at3 : vs2' d ≡ 1 = at2 ∙ ap (λ (b : Bool). if b then 0 else 1) (not_zero v) in
         takes_one at n (flat_state (task.AndThen right ∷ ts) (suc v ∷ values) vs1 us) (VariableOf d)
-        (value_ops right (suc d) (truth_ops (operand_at (standing right) (suc d)) d NoOps)) NoOps (ops_tasks c ts') vs2' (reverse us) (λ none. absurd (suc_not_zero 0 (sym at3 ∙ none)))
+        (value_ops right (suc d) (truth_ops (operand_at (standing right) (suc d)) d NoOps)) NoOps (ops_tasks c ts') vs2' us (λ none. absurd (suc_not_zero 0 (sym at3 ∙ none)))
         (FirstGoes n (flat_state (task.AndThen right ∷ ts) (suc v ∷ values) vs1 us) (flat_state (value_tasks right (task.Truth ∷ ts)) values vs1 us)
-        (state (ops_tasks (value_ops right (suc d) (truth_ops (operand_at (standing right) (suc d)) d NoOps)) (ops_tasks c ts')) vs2' (reverse us))
+        (state (ops_tasks (value_ops right (suc d) (truth_ops (operand_at (standing right) (suc d)) d NoOps)) (ops_tasks c ts')) vs2' us)
         (ap (λ (b : Bool). Go (on_zero b (flat_state ts (0 ∷ values) vs1 us) (flat_state (value_tasks right (task.Truth ∷ ts)) values vs1 us))) (not_zero v))
         (truth_goes at count right gives' n d c ts ts' values vs vs' vs1 vs2' us (calls left) le a same next))
 
@@ -94,23 +94,23 @@ either_goes at count left right gives gives' n d c ts ts' values vs vs' us le al
     let rest : Ops = AndOp (If (VariableOf d) NoOps (value_ops right (suc d) (truth_ops (operand_at (standing right) (suc d)) d NoOps))) c in
     gives n d (truth_ops (operand_at (standing left) d) d rest) (task.OrElse right ∷ ts) ts' values vs vs' us le alike
     (λ v vs1 vs1' a same e word.
-    truth_holds at n (flat_state (task.OrElse right ∷ ts) (v ∷ values) vs1 us) (operand_at (standing left) d) d rest ts' vs1' (reverse us) v e
+    truth_holds at n (flat_state (task.OrElse right ∷ ts) (v ∷ values) vs1 us) (operand_at (standing left) d) d rest ts' vs1' us v e
     (λ vs2' kept at2. by_value v vs1 vs2' (alike_kept count d d vs' vs1 vs1' vs2' le (omega arith) kept a) same at2))
   where
     by_value : (v : ℕ) (vs1 vs2' : ℕ → ℕ) → Alike count d vs' vs1 vs2' → (calls left ≡ false → vs1 ≡ vs) → vs2' d ≡ (if v == 0 then 0 else 1)
         → Along at n (flat_state (task.OrElse right ∷ ts) (v ∷ values) vs1 us)
-        (state (Do (If (VariableOf d) NoOps (value_ops right (suc d) (truth_ops (operand_at (standing right) (suc d)) d NoOps))) ∷ ops_tasks c ts') vs2' (reverse us))
+        (state (Do (If (VariableOf d) NoOps (value_ops right (suc d) (truth_ops (operand_at (standing right) (suc d)) d NoOps))) ∷ ops_tasks c ts') vs2' us)
     by_value zero vs1 vs2' a same at2 =
         takes_other at n (flat_state (task.OrElse right ∷ ts) (0 ∷ values) vs1 us) (VariableOf d)
-        NoOps (value_ops right (suc d) (truth_ops (operand_at (standing right) (suc d)) d NoOps)) (ops_tasks c ts') vs2' (reverse us) at2
+        NoOps (value_ops right (suc d) (truth_ops (operand_at (standing right) (suc d)) d NoOps)) (ops_tasks c ts') vs2' us at2
         (FirstGoes n (flat_state (task.OrElse right ∷ ts) (0 ∷ values) vs1 us) (flat_state (value_tasks right (task.Truth ∷ ts)) values vs1 us)
-        (state (ops_tasks (value_ops right (suc d) (truth_ops (operand_at (standing right) (suc d)) d NoOps)) (ops_tasks c ts')) vs2' (reverse us)) refl
+        (state (ops_tasks (value_ops right (suc d) (truth_ops (operand_at (standing right) (suc d)) d NoOps)) (ops_tasks c ts')) vs2' us) refl
         (truth_goes at count right gives' n d c ts ts' values vs vs' vs1 vs2' us (calls left) le a same next))
     by_value (suc v) vs1 vs2' a same at2 =
         let at3 : vs2' d ≡ 1 = at2 ∙ ap (λ (b : Bool). if b then 0 else 1) (not_zero v) in
         takes_one at n (flat_state (task.OrElse right ∷ ts) (suc v ∷ values) vs1 us) (VariableOf d)
-        NoOps (value_ops right (suc d) (truth_ops (operand_at (standing right) (suc d)) d NoOps)) (ops_tasks c ts') vs2' (reverse us) (λ none. absurd (suc_not_zero 0 (sym at3 ∙ none)))
-        (FirstGoes n (flat_state (task.OrElse right ∷ ts) (suc v ∷ values) vs1 us) (flat_state ts (1 ∷ values) vs1 us) (state (ops_tasks c ts') vs2' (reverse us))
+        NoOps (value_ops right (suc d) (truth_ops (operand_at (standing right) (suc d)) d NoOps)) (ops_tasks c ts') vs2' us (λ none. absurd (suc_not_zero 0 (sym at3 ∙ none)))
+        (FirstGoes n (flat_state (task.OrElse right ∷ ts) (suc v ∷ values) vs1 us) (flat_state ts (1 ∷ values) vs1 us) (state (ops_tasks c ts') vs2' us)
         (ap (λ (b : Bool). Go (on_zero b (flat_state (value_tasks right (task.Truth ∷ ts)) values vs1 us) (flat_state ts (1 ∷ values) vs1 us))) (not_zero v))
         (next 1 vs1 vs2' a (λ none. same (not_first (calls left) (calls right) none)) at3 (omega arith)))
 
@@ -128,11 +128,11 @@ chosen_goes : (at : Setting) (count : ℕ) (part : FlatExpr) → ValueGoes at co
     → (n d : ℕ) (c : Ops) (ts : List FlatTask) (ts' : List Task) (values : List ℕ) (vs0 vs0' vs vs' : ℕ → ℕ) (us : List ℕ) (all : Bool) → count ≤ d
     → Alike count d vs0' vs vs' → (all ≡ false → vs ≡ vs0) → (all ≡ false → calls part ≡ false) → BehindValue at count Made all n d c ts ts' values vs0 vs0' us
     → Along at n (flat_state (value_tasks part ts) values vs us)
-    (state (ops_tasks (value_ops part d (settled (standing part) d NoOps)) (ops_tasks c ts')) vs' (reverse us))
+    (state (ops_tasks (value_ops part d (settled (standing part) d NoOps)) (ops_tasks c ts')) vs' us)
 chosen_goes at count part gives n d c ts ts' values vs0 vs0' vs vs' us all le alike same within next =
     gives n d (settled (standing part) d NoOps) ts (ops_tasks c ts') values vs vs' us le (alike_self count d vs0' vs vs' d alike)
     (λ w vs1 vs1' b same' e word.
-    settles at n (flat_state ts (w ∷ values) vs1 us) (standing part) d NoOps (ops_tasks c ts') vs1' (reverse us) w e
+    settles at n (flat_state ts (w ∷ values) vs1 us) (standing part) d NoOps (ops_tasks c ts') vs1' us w e
     (λ vs2' kept at2. next w vs1 vs2' (alike_kept count d d vs0' vs1 vs1' vs2' le (omega arith) kept (alike_on count d d vs0' vs vs' vs1 vs1' (omega arith) alike b))
     (λ none. same' (within none) ∙ same none) at2 word))
 
@@ -152,18 +152,18 @@ choose_goes at count unsigned test one other gives gives1 gives2 n d c ts ts' va
     all = calls test || (calls one || calls other)
 
     by_value : (v : ℕ) (vs1 vs1' : ℕ → ℕ) → Alike count d vs' vs1 vs1' → (calls test ≡ false → vs1 ≡ vs) → value vs1' (operand_at (standing test) d) ≡ v
-        → Along at n (flat_state (task.Choose one other ∷ ts) (v ∷ values) vs1 us) (state (Do (If (operand_at (standing test) d) one_ops other_ops) ∷ ops_tasks c ts') vs1' (reverse us))
+        → Along at n (flat_state (task.Choose one other ∷ ts) (v ∷ values) vs1 us) (state (Do (If (operand_at (standing test) d) one_ops other_ops) ∷ ops_tasks c ts') vs1' us)
     by_value zero vs1 vs1' a same e =
-        takes_other at n (flat_state (task.Choose one other ∷ ts) (0 ∷ values) vs1 us) (operand_at (standing test) d) one_ops other_ops (ops_tasks c ts') vs1' (reverse us) e
+        takes_other at n (flat_state (task.Choose one other ∷ ts) (0 ∷ values) vs1 us) (operand_at (standing test) d) one_ops other_ops (ops_tasks c ts') vs1' us e
         (FirstGoes n (flat_state (task.Choose one other ∷ ts) (0 ∷ values) vs1 us) (flat_state (value_tasks other ts) values vs1 us)
-        (state (ops_tasks other_ops (ops_tasks c ts')) vs1' (reverse us)) refl
+        (state (ops_tasks other_ops (ops_tasks c ts')) vs1' us) refl
         (chosen_goes at count other gives2 n d c ts ts' values vs vs' vs1 vs1' us all le a (λ none. same (not_first (calls test) (calls one || calls other) none))
         (λ none. not_second (calls one) (calls other) (not_second (calls test) (calls one || calls other) none)) next))
     by_value (suc v) vs1 vs1' a same e =
-        takes_one at n (flat_state (task.Choose one other ∷ ts) (suc v ∷ values) vs1 us) (operand_at (standing test) d) one_ops other_ops (ops_tasks c ts') vs1' (reverse us)
+        takes_one at n (flat_state (task.Choose one other ∷ ts) (suc v ∷ values) vs1 us) (operand_at (standing test) d) one_ops other_ops (ops_tasks c ts') vs1' us
         (λ none. absurd (suc_not_zero v (sym e ∙ none)))
         (FirstGoes n (flat_state (task.Choose one other ∷ ts) (suc v ∷ values) vs1 us) (flat_state (value_tasks one ts) values vs1 us)
-        (state (ops_tasks one_ops (ops_tasks c ts')) vs1' (reverse us))
+        (state (ops_tasks one_ops (ops_tasks c ts')) vs1' us)
         (ap (λ (b : Bool). Go (flat_state (on_zero b (value_tasks other ts) (value_tasks one ts)) values vs1 us)) (not_zero v))
         (chosen_goes at count one gives1 n d c ts ts' values vs vs' vs1 vs1' us all le a (λ none. same (not_first (calls test) (calls one || calls other) none))
         (λ none. not_first (calls one) (calls other) (not_second (calls test) (calls one || calls other) none)) next))

@@ -1,6 +1,5 @@
 -- Loads in expressions, and assignments to elements, in both.
 use Rattle.std.proofs.Common.{◌≡◌, ℕ, suc, ◌≤◌, Bool, List, ◌∷◌, refl, ◌∙◌, arith, lt-ltb}
-use Rattle.std.specs.Prelude.{reverse}
 use Rattle.vx_base.specs.Values.{fitted}
 use Rattle.vx_base.proofs.ValueLaws.{fitted-lt}
 use Rattle.vx_base.specs.declared.types.Elem.{Elem}
@@ -32,7 +31,7 @@ pub load_goes : (at : Setting) (count : ℕ) (array : ArrayRef) (elem : Elem) (p
 load_goes at count array elem place pos accesses gives n d c ts ts' values vs vs' us le alike next =
     gives n d (load_ops array elem pos (operand_at (standing place) d) d c) (task.Load array pos ∷ ts) ts' values vs vs' us le alike
     (λ i vs1 vs1' a same e word.
-    load_both at n array elem pos (flat_state (task.Load array pos ∷ ts) (i ∷ values) vs1 us) ts values (i ∷ values) vs1 us (operand_at (standing place) d) d c ts' vs1' (reverse us) i
+    load_both at n array elem pos (flat_state (task.Load array pos ∷ ts) (i ∷ values) vs1 us) ts values (i ∷ values) vs1 us (operand_at (standing place) d) d c ts' vs1' us i
     accesses refl e
     (λ below answer.
     let z : ℕ = fitted elem answer in
@@ -52,7 +51,7 @@ set_element_acts at count array elem pos tasks place p place_calls tasks' right 
     pair_goes at count tasks place p place_calls tasks' right s right_calls stands gives gives' n d (store_ops array elem pos a b c) (task.Store array pos ∷ ts) ts' values vs vs' us
     (omega arith) alike
     (λ i v vs1 vs1' al same e e' word word'.
-    store_both at n array elem pos (flat_state (task.Store array pos ∷ ts) (v ∷ i ∷ values) vs1 us) ts values vs1 us a b c ts' vs1' (reverse us) i v accesses changes refl e e'
+    store_both at n array elem pos (flat_state (task.Store array pos ∷ ts) (v ∷ i ∷ values) vs1 us) ts values vs1 us a b c ts' vs1' us i v accesses changes refl e e'
     (next vs1 vs1' al))
 
 -- an operator: what stood there is loaded before the right side is evaluated
@@ -62,7 +61,7 @@ combines : (at : Setting) (count : ℕ) (op : BinOp) (unsigned : Bool) (array : 
     → (n r : ℕ) (c : Ops) (ts : List FlatTask) (ts' : List Task) (values : List ℕ) (vs' vs1 vs2' : ℕ → ℕ) (us : List ℕ) (i : ℕ) → count ≤ r
     → Alike count (suc r) vs' vs1 vs2' → value vs2' (held_at right_calls p (suc r)) ≡ i → Stays count right_calls p (suc r) i vs1 vs2' → Behind at count n r ts (ops_tasks c ts') values vs' us
     → Along at n (flat_state (task.Reread array pos ∷ tasks' (task.Binary op unsigned ∷ task.Store array pos ∷ ts)) (i ∷ values) vs1 us)
-    (state (ops_tasks (combined_element op unsigned array elem pos right s checks (held_at right_calls p (suc r)) (above right_calls p (suc r)) c) ts') vs2' (reverse us))
+    (state (ops_tasks (combined_element op unsigned array elem pos right s checks (held_at right_calls p (suc r)) (above right_calls p (suc r)) c) ts') vs2' us)
 combines at count op unsigned array elem pos p tasks' right s right_calls checks accesses changes gives n r c ts ts' values vs' vs1 vs2' us i le alike e stays next =
     let d : ℕ = suc r in
     let x : Operand = held_at right_calls p d in
@@ -72,7 +71,7 @@ combines at count op unsigned array elem pos p tasks' right s right_calls checks
     let stored : Ops = restore_ops checks array elem pos x (VariableOf t) c in
     let rest : List FlatTask = task.Binary op unsigned ∷ task.Store array pos ∷ ts in
     load_both at n array elem pos (flat_state (task.Reread array pos ∷ tasks' rest) (i ∷ values) vs1 us) (tasks' rest) (i ∷ values) (i ∷ values) vs1 us x t
-    (right (suc t) (binary_ops op unsigned (VariableOf t) y t stored)) ts' vs2' (reverse us) i accesses refl e
+    (right (suc t) (binary_ops op unsigned (VariableOf t) y t stored)) ts' vs2' us i accesses refl e
     (λ below answer.
     let old : ℕ = fitted elem answer in
     let vs3' : ℕ → ℕ = put_at t old vs2' in
@@ -82,13 +81,13 @@ combines at count op unsigned array elem pos p tasks' right s right_calls checks
     (λ w vs4 vs4' a4 same e4 word4.
     let z : ℕ = binary_value op unsigned old w in
     FirstGoes n (flat_state rest (w ∷ old ∷ i ∷ values) vs4 us) (flat_state (task.Store array pos ∷ ts) (z ∷ i ∷ values) vs4 us)
-    (state (ops_tasks (binary_ops op unsigned (VariableOf t) y t stored) ts') vs4' (reverse us)) refl
-    (binary_holds at n (flat_state (task.Store array pos ∷ ts) (z ∷ i ∷ values) vs4 us) op unsigned (VariableOf t) y t stored ts' vs4' (reverse us) old w
+    (state (ops_tasks (binary_ops op unsigned (VariableOf t) y t stored) ts') vs4' us) refl
+    (binary_holds at n (flat_state (task.Store array pos ∷ ts) (z ∷ i ∷ values) vs4 us) op unsigned (VariableOf t) y t stored ts' vs4' us old w
     (a4.frame t (omega arith) (omega arith) ∙ put_at_same t old vs2') e4
     (λ vs5' kept5 at5.
     let a5 : Alike count t vs2' vs4 vs5' =
     alike_kept count t t vs2' vs4 vs4' vs5' (omega arith) (omega arith) kept5 (alike_on count t (suc t) vs2' vs1 vs3' vs4 vs4' (omega arith) a3 a4) in
-    restores at n checks array elem pos (flat_state (task.Store array pos ∷ ts) (z ∷ i ∷ values) vs4 us) ts values vs4 us x (VariableOf t) c ts' vs5' (reverse us) i z accesses changes refl
+    restores at n checks array elem pos (flat_state (task.Store array pos ∷ ts) (z ∷ i ∷ values) vs4 us) ts values vs4 us x (VariableOf t) c ts' vs5' us i z accesses changes refl
     (stays vs4 vs5' a5 same) at5 (lt-ltb i (at.array array).count below)
     (next vs4 vs5' (alike_on count (suc r) t vs' vs1 vs2' vs4 vs5' from alike a5))))))
 
@@ -104,7 +103,7 @@ change_element_acts at count op unsigned array elem pos tasks place p place_call
     let rest : List FlatTask = task.Reread array pos ∷ tasks' (task.Binary op unsigned ∷ task.Store array pos ∷ ts) in
     gives n d (copied right_calls p d combined) rest ts' values vs vs' us (omega arith) alike
     (λ i vs1 vs1' a same e word.
-    holds_it at count n (flat_state rest (i ∷ values) vs1 us) right_calls p d combined ts' vs1 vs1' (reverse us) i (omega arith) stands a.equal e
+    holds_it at count n (flat_state rest (i ∷ values) vs1 us) right_calls p d combined ts' vs1 vs1' us i (omega arith) stands a.equal e
     (λ vs2' kept stays.
     let a2 : Alike count (suc r) vs' vs1 vs2' = alike_kept count d (suc r) vs' vs1 vs1' vs2' (omega arith) (omega arith) kept a in
     combines at count op unsigned array elem pos p tasks' right s right_calls checks accesses changes gives' n r c ts ts' values vs' vs1 vs2' us i le a2

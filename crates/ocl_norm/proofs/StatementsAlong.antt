@@ -28,21 +28,21 @@ use Rattle.ocl_norm.proofs.ValuesAlong.{Gives}
 -- what is to hold behind a statement in a call whose result is the variable r
 abbrev pub Behind : Setting → ℕ → (n r : ℕ) → List FlatTask → List Task → List ℕ → (ℕ → ℕ) → List ℕ → Type 0
 Behind at count n r ts ts' values vs' us =
-    (vs1 vs1' : ℕ → ℕ) → Alike count (suc r) vs' vs1 vs1' → Along at n (flat_state ts values vs1 us) (state ts' vs1' (reverse us))
+    (vs1 vs1' : ℕ → ℕ) → Alike count (suc r) vs' vs1 vs1' → Along at n (flat_state ts values vs1 us) (state ts' vs1' us)
 
 -- and where a jump leaves it: behind a `return` the variable r has what the call gives back
 pub record Leaves (at : Setting) (count n r : ℕ) (ts : List FlatTask) (ts' : List Task) (values : List ℕ) (vs' : ℕ → ℕ) (us : List ℕ) : Type 0 where
-  pub breaks : (xs : List FlatTask) (vs1 vs1' : ℕ → ℕ) → Alike count (suc r) vs' vs1 vs1' → Along at n (flat.left ts (flat_state xs values vs1 us)) (broken ts' vs1' (reverse us))
+  pub breaks : (xs : List FlatTask) (vs1 vs1' : ℕ → ℕ) → Alike count (suc r) vs' vs1 vs1' → Along at n (flat.left ts (flat_state xs values vs1 us)) (broken ts' vs1' us)
   pub continues : (xs : List FlatTask) (vs1 vs1' : ℕ → ℕ) → Alike count (suc r) vs' vs1 vs1'
-      → Along at n (flat.continued ts (flat_state xs values vs1 us)) (continued ts' vs1' (reverse us))
+      → Along at n (flat.continued ts (flat_state xs values vs1 us)) (continued ts' vs1' us)
   pub returns : (xs : List FlatTask) (v : ℕ) (vs1 vs1' : ℕ → ℕ) → Alike count r vs' vs1 vs1' → vs1' r ≡ v → v < 2 ^ 32
-      → Along at n (flat.returned ts (flat_state xs (v ∷ values) vs1 us)) (returned ts' vs1' (reverse us))
+      → Along at n (flat.returned ts (flat_state xs (v ∷ values) vs1 us)) (returned ts' vs1' us)
 
 -- These tasks and these operations of a statement go along, where what follows does.
 abbrev pub Acts : Setting → ℕ → (List FlatTask → List FlatTask) → Part → Type 0
 Acts at count tasks part = (n r : ℕ) (c : Ops) (ts : List FlatTask) (ts' : List Task) (values : List ℕ) (vs vs' : ℕ → ℕ) (us : List ℕ) → count ≤ r
     → Alike count (suc r) vs' vs vs' → vs' r ≡ 0 → Behind at count n r ts (ops_tasks c ts') values vs' us → Leaves at count n r ts ts' values vs' us
-    → Along at n (flat_state (tasks ts) values vs us) (state (ops_tasks (part r c) ts') vs' (reverse us))
+    → Along at n (flat_state (tasks ts) values vs us) (state (ops_tasks (part r c) ts') vs' us)
 
 abbrev pub StmtGoes : Setting → ℕ → FlatStmt → Type 0
 StmtGoes at count s = Acts at count (stmt_tasks s) (stmt_ops s)
@@ -70,14 +70,14 @@ pub leaves_over : (at : Setting) (count n r : ℕ) (tasks : List FlatTask → Li
     → Skipped tasks → Leaves at count n r ts ts' values vs' us → Leaves at count n r (tasks ts) (ops_tasks c ts') values vs' us
 leaves_over at count n r tasks c ts ts' values vs' us skips leaves = record {
   breaks = λ xs vs1 vs1' a.
-      subst (λ t. Along at n (flat.left (tasks ts) (flat_state xs values vs1 us)) t) (sym (broken_skips c ts' vs1' (reverse us)))
-      (subst (λ s. Along at n s (broken ts' vs1' (reverse us))) (sym ((skips ts).left (flat_state xs values vs1 us))) (leaves.breaks xs vs1 vs1' a));
+      subst (λ t. Along at n (flat.left (tasks ts) (flat_state xs values vs1 us)) t) (sym (broken_skips c ts' vs1' us))
+      (subst (λ s. Along at n s (broken ts' vs1' us)) (sym ((skips ts).left (flat_state xs values vs1 us))) (leaves.breaks xs vs1 vs1' a));
   continues = λ xs vs1 vs1' a.
-      subst (λ t. Along at n (flat.continued (tasks ts) (flat_state xs values vs1 us)) t) (sym (continued_skips c ts' vs1' (reverse us)))
-      (subst (λ s. Along at n s (continued ts' vs1' (reverse us))) (sym ((skips ts).continued (flat_state xs values vs1 us))) (leaves.continues xs vs1 vs1' a));
+      subst (λ t. Along at n (flat.continued (tasks ts) (flat_state xs values vs1 us)) t) (sym (continued_skips c ts' vs1' us))
+      (subst (λ s. Along at n s (continued ts' vs1' us)) (sym ((skips ts).continued (flat_state xs values vs1 us))) (leaves.continues xs vs1 vs1' a));
   returns = λ xs v vs1 vs1' a e word.
-      subst (λ t. Along at n (flat.returned (tasks ts) (flat_state xs (v ∷ values) vs1 us)) t) (sym (returned_skips c ts' vs1' (reverse us)))
-      (subst (λ s. Along at n s (returned ts' vs1' (reverse us))) (sym ((skips ts).returned (flat_state xs (v ∷ values) vs1 us))) (leaves.returns xs v vs1 vs1' a e word));
+      subst (λ t. Along at n (flat.returned (tasks ts) (flat_state xs (v ∷ values) vs1 us)) t) (sym (returned_skips c ts' vs1' us))
+      (subst (λ s. Along at n s (returned ts' vs1' us)) (sym ((skips ts).returned (flat_state xs (v ∷ values) vs1 us))) (leaves.returns xs v vs1 vs1' a e word));
 }
 
 abbrev pub same_tasks : List FlatTask → List FlatTask
@@ -111,12 +111,12 @@ acts_on at count tasks part tasks' part' skips acts acts' n r c ts ts' values vs
 -- it goes into a variable of the kernel
 pub assigns : (at : Setting) (count n r : ℕ) (x : ℕ) (elem : Elem) (a : Operand) (c : Ops) (ts : List FlatTask) (ts' : List Task) (values : List ℕ) (vs' vs1 vs1' : ℕ → ℕ) (us : List ℕ) (v : ℕ)
     → x < count → Alike count (suc r) vs' vs1 vs1' → value vs1' a ≡ v → Behind at count n r ts (ops_tasks c ts') values vs' us
-    → Along at n (flat_state (task.Assign x elem ∷ ts) (v ∷ values) vs1 us) (state (ops_tasks (AndOp (Fit x elem a) c) ts') vs1' (reverse us))
+    → Along at n (flat_state (task.Assign x elem ∷ ts) (v ∷ values) vs1 us) (state (ops_tasks (AndOp (Fit x elem a) c) ts') vs1' us)
 assigns at count n r x elem a c ts ts' values vs' vs1 vs1' us v below alike e next =
     let z : ℕ = fitted elem v in
     FirstGoes n (flat_state (task.Assign x elem ∷ ts) (v ∷ values) vs1 us) (flat_state ts values (put_at x z vs1) us)
-    (state (ops_tasks (AndOp (Fit x elem a) c) ts') vs1' (reverse us)) refl
-    (fits at n (flat_state ts values (put_at x z vs1) us) x elem a (ops_tasks c ts') vs1' (reverse us) v e
+    (state (ops_tasks (AndOp (Fit x elem a) c) ts') vs1' us) refl
+    (fits at n (flat_state ts values (put_at x z vs1) us) x elem a (ops_tasks c ts') vs1' us v e
     (next (put_at x z vs1) (put_at x z vs1') (alike_put count (suc r) vs' vs1 vs1' x z below (fitted-lt elem v) alike)))
 
 pub assigned_acts : (at : Setting) (count : ℕ) (x : ℕ) (elem : Elem) (tasks : List FlatTask → List FlatTask) (part : Part) (s : Standing) (calls : Bool) → x < count
@@ -128,20 +128,20 @@ assigned_acts at count x elem tasks part s calls below gives n r c ts ts' values
 -- a variable becomes 0
 pub clear_acts : (at : Setting) (count : ℕ) (x : ℕ) → x < count → Acts at count (λ ts. task.Clear x ∷ ts) (λ r c. AndOp (Set x (NumberOf 0)) c)
 clear_acts at count x below n r c ts ts' values vs vs' us le alike none next leave =
-    FirstGoes n (flat_state (task.Clear x ∷ ts) values vs us) (flat_state ts values (put_at x 0 vs) us) (state (ops_tasks (AndOp (Set x (NumberOf 0)) c) ts') vs' (reverse us)) refl
-    (sets at n (flat_state ts values (put_at x 0 vs) us) x (NumberOf 0) (ops_tasks c ts') vs' (reverse us) 0 refl
+    FirstGoes n (flat_state (task.Clear x ∷ ts) values vs us) (flat_state ts values (put_at x 0 vs) us) (state (ops_tasks (AndOp (Set x (NumberOf 0)) c) ts') vs' us) refl
+    (sets at n (flat_state ts values (put_at x 0 vs) us) x (NumberOf 0) (ops_tasks c ts') vs' us 0 refl
     (next (put_at x 0 vs) (put_at x 0 vs') (alike_put count (suc r) vs' vs vs' x 0 below (omega arith) alike)))
 
 pub call_acts : (at : Setting) (count : ℕ) (call : FlatExpr) → ValueGoes at count call → StmtGoes at count (CallStmtFlat call)
 call_acts at count call gives n r c ts ts' values vs vs' us le alike none next leave =
     gives n (suc r) c (task.Discard ∷ ts) ts' values vs vs' us (omega arith) alike
     (λ v vs1 vs1' a same e word.
-    FirstGoes n (flat_state (task.Discard ∷ ts) (v ∷ values) vs1 us) (flat_state ts values vs1 us) (state (ops_tasks c ts') vs1' (reverse us)) refl (next vs1 vs1' a))
+    FirstGoes n (flat_state (task.Discard ∷ ts) (v ∷ values) vs1 us) (flat_state ts values vs1 us) (state (ops_tasks c ts') vs1' us) refl (next vs1 vs1' a))
 
 pub barrier_acts : (at : Setting) (count site : ℕ) → StmtGoes at count (BarrierFlat site)
 barrier_acts at count site n r c ts ts' values vs vs' us le alike none next leave =
-    BothAsk n (flat_state (task.Wait site ∷ ts) values vs us) (state (Do (Barrier site) ∷ ops_tasks c ts') vs' (reverse us))
-    (BarrierAction (record { site = site; turns = reverse us })) (λ answer. flat_state ts values vs us) (λ answer. state (ops_tasks c ts') vs' (reverse us)) refl refl (omega arith)
+    BothAsk n (flat_state (task.Wait site ∷ ts) values vs us) (state (Do (Barrier site) ∷ ops_tasks c ts') vs' us)
+    (BarrierAction (record { site = site; turns = reverse us })) (λ answer. flat_state ts values vs us) (λ answer. state (ops_tasks c ts') vs' us) refl refl (omega arith)
     (λ answer. next vs vs' alike)
 
 -- ---- branches
@@ -151,17 +151,17 @@ branched : (at : Setting) (count : ℕ) (one : FlatStmt) (other : Option FlatStm
     → Acts at count (flat.optional stmt_tasks other) other_ops
     → (n r : ℕ) (a : Operand) (c : Ops) (ts : List FlatTask) (ts' : List Task) (values : List ℕ) (vs vs' : ℕ → ℕ) (us : List ℕ) (v : ℕ) → count ≤ r
     → Alike count (suc r) vs' vs vs' → vs' r ≡ 0 → value vs' a ≡ v → Behind at count n r ts (ops_tasks c ts') values vs' us → Leaves at count n r ts ts' values vs' us
-    → Along at n (flat_state (task.Branch one other ∷ ts) (v ∷ values) vs us) (state (Do (If a (stmt_ops one r NoOps) (other_ops r NoOps)) ∷ ops_tasks c ts') vs' (reverse us))
+    → Along at n (flat_state (task.Branch one other ∷ ts) (v ∷ values) vs us) (state (Do (If a (stmt_ops one r NoOps) (other_ops r NoOps)) ∷ ops_tasks c ts') vs' us)
 branched at count one other other_ops acts acts' n r a c ts ts' values vs vs' us zero le alike none e next leave =
-    takes_other at n (flat_state (task.Branch one other ∷ ts) (0 ∷ values) vs us) a (stmt_ops one r NoOps) (other_ops r NoOps) (ops_tasks c ts') vs' (reverse us) e
+    takes_other at n (flat_state (task.Branch one other ∷ ts) (0 ∷ values) vs us) a (stmt_ops one r NoOps) (other_ops r NoOps) (ops_tasks c ts') vs' us e
     (FirstGoes n (flat_state (task.Branch one other ∷ ts) (0 ∷ values) vs us) (flat_state (flat.optional stmt_tasks other ts) values vs us)
-    (state (ops_tasks (other_ops r NoOps) (ops_tasks c ts')) vs' (reverse us)) refl
+    (state (ops_tasks (other_ops r NoOps) (ops_tasks c ts')) vs' us) refl
     (acts' n r NoOps ts (ops_tasks c ts') values vs vs' us le alike none next (leaves_behind at count n r c ts ts' values vs' us leave)))
 branched at count one other other_ops acts acts' n r a c ts ts' values vs vs' us (suc v) le alike none e next leave =
-    takes_one at n (flat_state (task.Branch one other ∷ ts) (suc v ∷ values) vs us) a (stmt_ops one r NoOps) (other_ops r NoOps) (ops_tasks c ts') vs' (reverse us)
+    takes_one at n (flat_state (task.Branch one other ∷ ts) (suc v ∷ values) vs us) a (stmt_ops one r NoOps) (other_ops r NoOps) (ops_tasks c ts') vs' us
     (λ zero_is. absurd (suc_not_zero v (sym e ∙ zero_is)))
     (FirstGoes n (flat_state (task.Branch one other ∷ ts) (suc v ∷ values) vs us) (flat_state (stmt_tasks one ts) values vs us)
-    (state (ops_tasks (stmt_ops one r NoOps) (ops_tasks c ts')) vs' (reverse us))
+    (state (ops_tasks (stmt_ops one r NoOps) (ops_tasks c ts')) vs' us)
     (ap (λ (b : Bool). Go (flat_state (if b then flat.optional stmt_tasks other ts else stmt_tasks one ts) values vs us)) (not_zero v))
     (acts n r NoOps ts (ops_tasks c ts') values vs vs' us le alike none next (leaves_behind at count n r c ts ts' values vs' us leave)))
 
@@ -187,45 +187,45 @@ if_else_acts at count test one other gives acts acts' n r c ts ts' values vs vs'
 
 pub break_acts : (at : Setting) (count : ℕ) → StmtGoes at count BreakFlat
 break_acts at count n r c ts ts' values vs vs' us le alike none next leave =
-    FirstGoes n (flat_state (task.Break ∷ ts) values vs us) (flat.left ts (flat_state ts values vs us)) (state (Do Break ∷ ops_tasks c ts') vs' (reverse us)) refl
-    (SecondGoes n (flat.left ts (flat_state ts values vs us)) (state (Do Break ∷ ops_tasks c ts') vs' (reverse us)) (broken (ops_tasks c ts') vs' (reverse us)) refl refl
-    (subst (λ t. Along at n (flat.left ts (flat_state ts values vs us)) t) (sym (broken_skips c ts' vs' (reverse us))) (leave.breaks ts vs vs' alike)))
+    FirstGoes n (flat_state (task.Break ∷ ts) values vs us) (flat.left ts (flat_state ts values vs us)) (state (Do Break ∷ ops_tasks c ts') vs' us) refl
+    (SecondGoes n (flat.left ts (flat_state ts values vs us)) (state (Do Break ∷ ops_tasks c ts') vs' us) (broken (ops_tasks c ts') vs' us) refl refl
+    (subst (λ t. Along at n (flat.left ts (flat_state ts values vs us)) t) (sym (broken_skips c ts' vs' us)) (leave.breaks ts vs vs' alike)))
 
 pub continue_acts : (at : Setting) (count : ℕ) → StmtGoes at count ContinueFlat
 continue_acts at count n r c ts ts' values vs vs' us le alike none next leave =
-    FirstGoes n (flat_state (task.Continue ∷ ts) values vs us) (flat.continued ts (flat_state ts values vs us)) (state (Do Continue ∷ ops_tasks c ts') vs' (reverse us)) refl
-    (SecondGoes n (flat.continued ts (flat_state ts values vs us)) (state (Do Continue ∷ ops_tasks c ts') vs' (reverse us)) (continued (ops_tasks c ts') vs' (reverse us)) refl refl
-    (subst (λ t. Along at n (flat.continued ts (flat_state ts values vs us)) t) (sym (continued_skips c ts' vs' (reverse us))) (leave.continues ts vs vs' alike)))
+    FirstGoes n (flat_state (task.Continue ∷ ts) values vs us) (flat.continued ts (flat_state ts values vs us)) (state (Do Continue ∷ ops_tasks c ts') vs' us) refl
+    (SecondGoes n (flat.continued ts (flat_state ts values vs us)) (state (Do Continue ∷ ops_tasks c ts') vs' us) (continued (ops_tasks c ts') vs' us) refl refl
+    (subst (λ t. Along at n (flat.continued ts (flat_state ts values vs us)) t) (sym (continued_skips c ts' vs' us)) (leave.continues ts vs vs' alike)))
 
 -- a value is given back
 returns_it : (at : Setting) (count n r : ℕ) (c : Ops) (ts : List FlatTask) (ts' : List Task) (values : List ℕ) (vs' vs1 vs1' : ℕ → ℕ) (us : List ℕ) (v : ℕ)
     → Alike count r vs' vs1 vs1' → vs1' r ≡ v → v < 2 ^ 32 → Leaves at count n r ts ts' values vs' us
-    → Along at n (flat_state (task.Return ∷ ts) (v ∷ values) vs1 us) (state (Do Return ∷ ops_tasks c ts') vs1' (reverse us))
+    → Along at n (flat_state (task.Return ∷ ts) (v ∷ values) vs1 us) (state (Do Return ∷ ops_tasks c ts') vs1' us)
 returns_it at count n r c ts ts' values vs' vs1 vs1' us v alike e word leave =
     let there : FlatState = flat.returned ts (flat_state ts (v ∷ values) vs1 us) in
-    FirstGoes n (flat_state (task.Return ∷ ts) (v ∷ values) vs1 us) there (state (Do Return ∷ ops_tasks c ts') vs1' (reverse us)) refl
-    (SecondGoes n there (state (Do Return ∷ ops_tasks c ts') vs1' (reverse us)) (returned (ops_tasks c ts') vs1' (reverse us)) refl refl
-    (subst (λ t. Along at n there t) (sym (returned_skips c ts' vs1' (reverse us))) (leave.returns ts v vs1 vs1' alike e word)))
+    FirstGoes n (flat_state (task.Return ∷ ts) (v ∷ values) vs1 us) there (state (Do Return ∷ ops_tasks c ts') vs1' us) refl
+    (SecondGoes n there (state (Do Return ∷ ops_tasks c ts') vs1' us) (returned (ops_tasks c ts') vs1' us) refl refl
+    (subst (λ t. Along at n there t) (sym (returned_skips c ts' vs1' us)) (leave.returns ts v vs1 vs1' alike e word)))
 
 gives_back : (at : Setting) (count n r : ℕ) (gives : Giving) (a : Operand) (c : Ops) (ts : List FlatTask) (ts' : List Task) (values : List ℕ) (vs' vs1 vs1' : ℕ → ℕ) (us : List ℕ) (v : ℕ)
     → count ≤ r → Alike count r vs' vs1 vs1' → value vs1' a ≡ v → v < 2 ^ 32 → Leaves at count n r ts ts' values vs' us
-    → Along at n (flat_state (given_tasks gives (task.Return ∷ ts)) (v ∷ values) vs1 us) (state (ops_tasks (given_ops gives a r (AndOp Return c)) ts') vs1' (reverse us))
+    → Along at n (flat_state (given_tasks gives (task.Return ∷ ts)) (v ∷ values) vs1 us) (state (ops_tasks (given_ops gives a r (AndOp Return c)) ts') vs1' us)
 gives_back at count n r Nothing a c ts ts' values vs' vs1 vs1' us v le alike e word leave =
-    sets at n (flat_state (task.Return ∷ ts) (v ∷ values) vs1 us) r a (Do Return ∷ ops_tasks c ts') vs1' (reverse us) v e
+    sets at n (flat_state (task.Return ∷ ts) (v ∷ values) vs1 us) r a (Do Return ∷ ops_tasks c ts') vs1' us v e
     (returns_it at count n r c ts ts' values vs' vs1 (put_at r v vs1') us v
     (alike_kept count r r vs' vs1 vs1' (put_at r v vs1') le (omega arith) (kept_put r r v vs1' (omega arith)) alike) (put_at_same r v vs1') word leave)
 gives_back at count n r (Value elem) a c ts ts' values vs' vs1 vs1' us v le alike e word leave =
     let z : ℕ = fitted elem v in
     FirstGoes n (flat_state (task.Fit elem ∷ task.Return ∷ ts) (v ∷ values) vs1 us) (flat_state (task.Return ∷ ts) (z ∷ values) vs1 us)
-    (state (ops_tasks (AndOp (Fit r elem a) (AndOp Return c)) ts') vs1' (reverse us)) refl
-    (fits at n (flat_state (task.Return ∷ ts) (z ∷ values) vs1 us) r elem a (Do Return ∷ ops_tasks c ts') vs1' (reverse us) v e
+    (state (ops_tasks (AndOp (Fit r elem a) (AndOp Return c)) ts') vs1' us) refl
+    (fits at n (flat_state (task.Return ∷ ts) (z ∷ values) vs1 us) r elem a (Do Return ∷ ops_tasks c ts') vs1' us v e
     (returns_it at count n r c ts ts' values vs' vs1 (put_at r z vs1') us z
     (alike_kept count r r vs' vs1 vs1' (put_at r z vs1') le (omega arith) (kept_put r r z vs1' (omega arith)) alike) (put_at_same r z vs1') (fitted-lt elem v) leave))
 
 pub return_nothing_acts : (at : Setting) (count : ℕ) (gives : Giving) → StmtGoes at count (ReturnFlat gives NoFlat)
 return_nothing_acts at count gives n r c ts ts' values vs vs' us le alike none next leave =
     FirstGoes n (flat_state (task.Number 0 ∷ task.Return ∷ ts) values vs us) (flat_state (task.Return ∷ ts) (0 ∷ values) vs us)
-    (state (Do Return ∷ ops_tasks c ts') vs' (reverse us)) refl
+    (state (Do Return ∷ ops_tasks c ts') vs' us) refl
     (returns_it at count n r c ts ts' values vs' vs vs' us 0 (alike_less count r (suc r) vs' vs vs' (omega arith) alike) none (omega arith) leave)
 
 pub return_acts : (at : Setting) (count : ℕ) (gives : Giving) (e : FlatExpr) → ValueGoes at count e → StmtGoes at count (ReturnFlat gives (SomeFlat e))

@@ -1,6 +1,6 @@
 -- Values of expressions in both: the flat machine has them on its stack, the normal form in an operand.
 use Rattle.std.proofs.Common.{◌≡◌, ℕ, suc, ◌<◌, ◌≤◌, ◌^◌, Bool, true, false, ◌||◌, List, ◌∷◌, refl, ap, sym, ◌∙◌, arith, true≢false}
-use Rattle.std.specs.Prelude.{reverse, if◌then◌else◌, ◌==◌}
+use Rattle.std.specs.Prelude.{if◌then◌else◌, ◌==◌}
 use Rattle.vx_base.specs.Values.{fitted}
 use Rattle.vx_base.proofs.ValueLaws.{alu_value_of-lt, fitted-lt}
 use Rattle.vx_base.specs.declared.types.Alu.TheVariants as alu
@@ -105,17 +105,17 @@ abbrev pub Gives : Setting → ℕ → (List FlatTask → List FlatTask) → Par
 Gives at count tasks part s calls = (n d : ℕ) (c : Ops) (ts : List FlatTask) (ts' : List Task) (values : List ℕ) (vs vs' : ℕ → ℕ) (us : List ℕ) → count ≤ d
     → Alike count d vs' vs vs'
     → ((v : ℕ) (vs1 vs1' : ℕ → ℕ) → Alike count d vs' vs1 vs1' → (calls ≡ false → vs1 ≡ vs) → value vs1' (operand_at s d) ≡ v → v < 2 ^ 32
-    → Along at n (flat_state ts (v ∷ values) vs1 us) (state (ops_tasks c ts') vs1' (reverse us)))
-    → Along at n (flat_state (tasks ts) values vs us) (state (ops_tasks (part d c) ts') vs' (reverse us))
+    → Along at n (flat_state ts (v ∷ values) vs1 us) (state (ops_tasks c ts') vs1' us))
+    → Along at n (flat_state (tasks ts) values vs us) (state (ops_tasks (part d c) ts') vs' us)
 
 pub number_gives : (at : Setting) (count m : ℕ) → m < 2 ^ 32 → Gives at count (λ ts. task.Number m ∷ ts) (λ d c. c) (Fixed m) false
 number_gives at count m word n d c ts ts' values vs vs' us le alike next =
-    FirstGoes n (flat_state (task.Number m ∷ ts) values vs us) (flat_state ts (m ∷ values) vs us) (state (ops_tasks c ts') vs' (reverse us)) refl
+    FirstGoes n (flat_state (task.Number m ∷ ts) values vs us) (flat_state ts (m ∷ values) vs us) (state (ops_tasks c ts') vs' us) refl
     (next m vs vs' alike (λ e. refl) refl word)
 
 pub variable_gives : (at : Setting) (count k : ℕ) → k < count → Gives at count (λ ts. task.Variable k ∷ ts) (λ d c. c) (Named k) false
 variable_gives at count k below n d c ts ts' values vs vs' us le alike next =
-    FirstGoes n (flat_state (task.Variable k ∷ ts) values vs us) (flat_state ts (vs k ∷ values) vs us) (state (ops_tasks c ts') vs' (reverse us)) refl
+    FirstGoes n (flat_state (task.Variable k ∷ ts) values vs us) (flat_state ts (vs k ∷ values) vs us) (state (ops_tasks c ts') vs' us) refl
     (next (vs k) vs vs' alike (λ e. refl) (alike.equal k below) (alike.words k below))
 
 -- ---- one part
@@ -126,8 +126,8 @@ unary_gives at count op tasks part s calls gives n d c ts ts' values vs vs' us l
     gives n d (unary_ops op (operand_at s d) d c) (task.Unary op ∷ ts) ts' values vs vs' us le alike
     (λ v vs1 vs1' a same e word.
     FirstGoes n (flat_state (task.Unary op ∷ ts) (v ∷ values) vs1 us) (flat_state ts (unary_value op v ∷ values) vs1 us)
-    (state (ops_tasks (unary_ops op (operand_at s d) d c) ts') vs1' (reverse us)) refl
-    (unary_holds at n (flat_state ts (unary_value op v ∷ values) vs1 us) op (operand_at s d) d c ts' vs1' (reverse us) v e
+    (state (ops_tasks (unary_ops op (operand_at s d) d c) ts') vs1' us) refl
+    (unary_holds at n (flat_state ts (unary_value op v ∷ values) vs1 us) op (operand_at s d) d c ts' vs1' us v e
     (λ vs2' kept at2. next (unary_value op v) vs1 vs2' (alike_kept count d d vs' vs1 vs1' vs2' le (omega arith) kept a) same at2 (unary_word op v word))))
 
 pub cast_gives : (at : Setting) (count : ℕ) (elem : Elem) (tasks : List FlatTask → List FlatTask) (part : Part) (s : Standing) (calls : Bool) → Gives at count tasks part s calls
@@ -137,8 +137,8 @@ cast_gives at count elem tasks part s calls gives n d c ts ts' values vs vs' us 
     (λ v vs1 vs1' a same e word.
     let vs2' : ℕ → ℕ = put_at d (fitted elem v) vs1' in
     FirstGoes n (flat_state (task.Fit elem ∷ ts) (v ∷ values) vs1 us) (flat_state ts (fitted elem v ∷ values) vs1 us)
-    (state (ops_tasks (AndOp (Fit d elem (operand_at s d)) c) ts') vs1' (reverse us)) refl
-    (fits at n (flat_state ts (fitted elem v ∷ values) vs1 us) d elem (operand_at s d) (ops_tasks c ts') vs1' (reverse us) v e
+    (state (ops_tasks (AndOp (Fit d elem (operand_at s d)) c) ts') vs1' us) refl
+    (fits at n (flat_state ts (fitted elem v ∷ values) vs1 us) d elem (operand_at s d) (ops_tasks c ts') vs1' us v e
     (next (fitted elem v) vs1 vs2' (alike_kept count d d vs' vs1 vs1' vs2' le (omega arith) (kept_put d d (fitted elem v) vs1' (omega arith)) a) same
     (put_at_same d (fitted elem v) vs1') (fitted-lt elem v))))
 
@@ -167,17 +167,17 @@ abbrev pub BehindPair : Setting → ℕ → Standing → Bool → Standing → B
 BehindPair at count s calls s' calls' n d c ts ts' values vs vs' us =
     (v w : ℕ) (vs1 vs1' : ℕ → ℕ) → Alike count d vs' vs1 vs1' → (calls ≡ false → calls' ≡ false → vs1 ≡ vs) → value vs1' (held_at calls' s d) ≡ v
     → value vs1' (operand_at s' (above calls' s d)) ≡ w → v < 2 ^ 32 → w < 2 ^ 32
-    → Along at n (flat_state ts (w ∷ v ∷ values) vs1 us) (state (ops_tasks c ts') vs1' (reverse us))
+    → Along at n (flat_state ts (w ∷ v ∷ values) vs1 us) (state (ops_tasks c ts') vs1' us)
 
 pub pair_goes : (at : Setting) (count : ℕ) (tasks : List FlatTask → List FlatTask) (part : Part) (s : Standing) (calls : Bool)
     (tasks' : List FlatTask → List FlatTask) (part' : Part) (s' : Standing) (calls' : Bool) → IsStanding count s → Gives at count tasks part s calls → Gives at count tasks' part' s' calls'
     → (n d : ℕ) (c : Ops) (ts : List FlatTask) (ts' : List Task) (values : List ℕ) (vs vs' : ℕ → ℕ) (us : List ℕ) → count ≤ d → Alike count d vs' vs vs'
     → BehindPair at count s calls s' calls' n d c ts ts' values vs vs' us
-    → Along at n (flat_state (tasks (tasks' ts)) values vs us) (state (ops_tasks (part d (copied calls' s d (part' (above calls' s d) c))) ts') vs' (reverse us))
+    → Along at n (flat_state (tasks (tasks' ts)) values vs us) (state (ops_tasks (part d (copied calls' s d (part' (above calls' s d) c))) ts') vs' us)
 pair_goes at count tasks part s calls tasks' part' s' calls' stands gives gives' n d c ts ts' values vs vs' us le alike next =
     gives n d (copied calls' s d (part' (above calls' s d) c)) (tasks' ts) ts' values vs vs' us le alike
     (λ v vs1 vs1' a same e word.
-    holds_it at count n (flat_state (tasks' ts) (v ∷ values) vs1 us) calls' s d (part' (above calls' s d) c) ts' vs1 vs1' (reverse us) v le stands a.equal e
+    holds_it at count n (flat_state (tasks' ts) (v ∷ values) vs1 us) calls' s d (part' (above calls' s d) c) ts' vs1 vs1' us v le stands a.equal e
     (λ vs2' kept stays.
     let from : d ≤ above calls' s d = above_from calls' s d in
     let a2 : Alike count d vs' vs1 vs2' = alike_kept count d d vs' vs1 vs1' vs2' le (omega arith) kept a in
@@ -228,8 +228,8 @@ pair_gives at count t join f joins computes words tasks part s calls tasks' part
     pair_goes at count tasks part s calls tasks' part' s' calls' stands gives gives' n d (join a b d c) (t ∷ ts) ts' values vs vs' us le alike
     (λ v w vs1 vs1' al same e e' word word'.
     FirstGoes n (flat_state (t ∷ ts) (w ∷ v ∷ values) vs1 us) (flat_state ts (f v w ∷ values) vs1 us)
-    (state (ops_tasks (join a b d c) ts') vs1' (reverse us)) (joins v w ts values vs1 us)
-    (computes n (flat_state ts (f v w ∷ values) vs1 us) a b d c ts' vs1' (reverse us) v w (held_under count d calls' s le stands)
+    (state (ops_tasks (join a b d c) ts') vs1' us) (joins v w ts values vs1 us)
+    (computes n (flat_state ts (f v w ∷ values) vs1 us) a b d c ts' vs1' us v w (held_under count d calls' s le stands)
     (under_more (suc first) (suc (suc d)) b (omega arith) (operand_under count first s' (omega arith) stands')) word word' e e'
     (λ vs2' kept at2. next (f v w) vs1 vs2' (alike_kept count d d vs' vs1 vs1' vs2' le (omega arith) kept al)
     (λ none. same (not_first calls calls' none) (not_second calls calls' none)) at2 (words v w word word'))))

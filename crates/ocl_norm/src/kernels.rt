@@ -9,7 +9,8 @@ ghost use Rattle.ocl_inline.specs.Proper.{IsTypedKernel, NumbersAreWords};
 
 use crate::rooms::stmts_room;
 use crate::statements::stmts_list;
-use kir::{Kir, copied_params};
+use item_settings::copied_params;
+use kir::Kir;
 use ocl_inline::trees::Flat;
 use std::alloc::Global;
 use vx_base::Memory;

@@ -8,8 +8,8 @@ use Rattle.task_machine.specs.declared.tasks.Task.{Task}
 use Rattle.task_machine.specs.declared.tasks.Task.TheVariants as task
 use Rattle.task_machine.specs.Loops.{Loop}
 use Rattle.task_machine.specs.Views.{loop_by, task_by, tasks_by}
-use Rattle.ocl_sem.specs.declared.placed.Part.{Part}
-use Rattle.ocl_sem.specs.declared.placed.Part.TheVariants.{One, Block}
+use Rattle.ocl_sem.specs.declared.placed.SourcePart.{SourcePart}
+use Rattle.ocl_sem.specs.declared.placed.SourcePart.TheVariants.{One, Block}
 use Rattle.ocl_sem.specs.declared.placed.PlacedExpr.{PlacedExpr as HeldExpr}
 use Rattle.ocl_sem.specs.declared.placed.PlacedStmt.{PlacedStmt as HeldStmt}
 use Rattle.ocl_sem.specs.declared.scopes.Scope.{Scope as HeldScope}
@@ -31,7 +31,7 @@ scope_of s = record {
 }
 
 -- the statement that a part is
-abbrev pub part_node : Part → StmtNode
+abbrev pub part_node : SourcePart → StmtNode
 part_node (One stmt) = stmt_node stmt.now
 part_node (Block stmts) = BlockNode (typed_stmts stmts.now)
 

@@ -4,7 +4,7 @@ ghost use Rattle.ocl_program.specs.Shapes.{function_node};
 ghost use Rattle.ocl_sem.specs.Source.{stmt_tasks};
 ghost use Rattle.ocl_sem.specs.Views.{part_node, scope_of, source_tasks};
 
-use crate::placed::{Part, PlacedExpr, PlacedStmt, SourceTasks};
+use crate::placed::{PlacedExpr, PlacedStmt, SourcePart, SourceTasks};
 use crate::scopes::Scope;
 use crate::statements::{push_stmt, push_stmts};
 use crate::unfold::{Source, push_value};
@@ -17,13 +17,13 @@ fn push_part<'a>(
     tasks: &mut SourceTasks<'a>,
     source: &Source<'a>,
     scope: &Rc<Scope<'a>>,
-    part: Part<'a>,
+    part: SourcePart<'a>,
 ) -> Result<(), AllocError>
     ensures { OnOk result (source_tasks tasks.new ≡ stmt_tasks (map function_node source.now.program.now) (scope_of scope.now.value) (part_node part.entry) (source_tasks tasks.old)) }
 {
     match part {
-        Part::One(stmt) => push_stmt(tasks, source, scope, stmt),
-        Part::Block(stmts) => push_stmts(tasks, source, scope, stmts),
+        SourcePart::One(stmt) => push_stmt(tasks, source, scope, stmt),
+        SourcePart::Block(stmts) => push_stmts(tasks, source, scope, stmts),
     }
 }
 

@@ -1,6 +1,6 @@
 //! The work-items of a launch, and one of them.
 ghost use Rattle.ocl_program.specs.Shapes.{function_node};
-ghost use Rattle.std.specs.Prelude.{◌≡◌, IfOk, map};
+ghost use Rattle.std.specs.Prelude.{◌≡◌, [], IfOk, map};
 ghost use Rattle.ocl_sem.specs.Items.{item_start};
 ghost use Rattle.ocl_sem.specs.Launched.{IsRoomy};
 ghost use Rattle.ocl_sem.specs.Views.{expr_of, stmt_of};
@@ -11,10 +11,11 @@ use crate::scopes::Scope;
 use crate::statements::push_stmts;
 use crate::unfold::Source;
 use item_acts::{Asked, Bound, BoundList, ItemCode, Range};
-use item_settings::{Setting, Stack, bound_values};
+use item_settings::{Setting, bound_values};
 use ocl_program::TypedFunction;
 use std::alloc::{AllocError, Global};
 use std::rc::Rc;
+use step_machine::Stack;
 use task_machine::State;
 use vx_base::Memory;
 
@@ -87,7 +88,8 @@ fn start<'a>(
     kernel: &'a TypedFunction,
     bounds: &[Bound],
 ) -> Result<State<PlacedExpr<'a>, PlacedStmt<'a>>, AllocError>
-    ensures { IfOk result (λ state. state_of expr_of stmt_of state ≡ item_start (map function_node source.now.program.now) (function_node kernel.now) bounds.now) }
+    ensures fresh { IfOk result (λ state. state.turns ≡ []) }
+    ensures start { IfOk result (λ state. state_of expr_of stmt_of state ≡ item_start (map function_node source.now.program.now) (function_node kernel.now) bounds.now) }
 {
     let alloc = source.alloc;
     let scope = Scope {

@@ -22,7 +22,7 @@ pub struct PlacedExpr<'a> {
 
 /// A statement, or statements in order.
 #[derive(Clone, Copy)]
-pub enum Part<'a> {
+pub enum SourcePart<'a> {
     /// One statement.
     One(&'a TypedStmt),
     /// Statements in order, as a block.
@@ -35,7 +35,7 @@ pub struct PlacedStmt<'a> {
     /// The call.
     pub scope: Rc<Scope<'a>>,
     /// The statement.
-    pub part: Part<'a>,
+    pub part: SourcePart<'a>,
 }
 
 /// A task of a kernel.
@@ -68,7 +68,7 @@ impl<'a> PlacedExpr<'a> {
 
 impl<'a> PlacedStmt<'a> {
     /// A statement within a call.
-    pub fn new(scope: &Rc<Scope<'a>>, part: Part<'a>) -> Result<PlacedStmt<'a>, AllocError>
+    pub fn new(scope: &Rc<Scope<'a>>, part: SourcePart<'a>) -> Result<PlacedStmt<'a>, AllocError>
         ensures { IfOk result (λ placed. stmt_of placed ≡ placed_stmt (scope_of scope.now.value) (part_node part.entry)) }
     {
         Ok(PlacedStmt {
@@ -99,7 +99,7 @@ pub fn place_loop<'a>(
         Some(test) => Some(PlacedExpr::new(scope, test)?),
         None => None,
     };
-    let step = PlacedStmt::new(scope, Part::Block(step))?;
-    let body = PlacedStmt::new(scope, Part::One(body))?;
+    let step = PlacedStmt::new(scope, SourcePart::Block(step))?;
+    let body = PlacedStmt::new(scope, SourcePart::One(body))?;
     Loop::new(alloc, test, step, body)
 }

@@ -4,7 +4,7 @@ ghost use Rattle.ocl_program.specs.Shapes.{function_node, node_of, stmt_node, ty
 ghost use Rattle.ocl_sem.specs.Source.{assigned_tasks, combined_tasks, declared_tasks, given_tasks, operand_tasks, return_tasks, stmt_tasks, stmts_tasks};
 ghost use Rattle.ocl_sem.specs.Views.{branch_tasks, do_tasks, entered_tasks, scope_of, source_loop, source_task, source_tasks};
 
-use crate::placed::{Part, PlacedStmt, SourceLoop, SourceTask, SourceTasks, place_loop};
+use crate::placed::{PlacedStmt, SourceLoop, SourcePart, SourceTask, SourceTasks, place_loop};
 use crate::scopes::Scope;
 use crate::unfold::{Source, push_value};
 use ocl_ast::{AssignOp, BinOp, Gives};
@@ -215,9 +215,9 @@ fn push_branch<'a>(
 ) -> Result<(), AllocError>
     ensures { OnOk result (source_tasks tasks.new ≡ branch_tasks (map function_node source.now.program.now) (scope_of scope.now.value) (node_of test.now) (stmt_node one.now) (option_map (λ s. stmt_node s.now) other.entry) (source_tasks tasks.old)) }
 {
-    let one = PlacedStmt::new(scope, Part::One(one))?;
+    let one = PlacedStmt::new(scope, SourcePart::One(one))?;
     let other = match other {
-        Some(other) => Some(PlacedStmt::new(scope, Part::One(other))?),
+        Some(other) => Some(PlacedStmt::new(scope, SourcePart::One(other))?),
         None => None,
     };
     tasks.push(Task::Branch { one, other })?;

@@ -6,7 +6,7 @@ ghost use Rattle.ocl_program.specs.Shapes.{argument_node, function_node, node_of
 ghost use Rattle.ocl_sem.specs.Source.{args_tasks, binding as binding_of, bound_as as bound_as_of, call_at, is_scalar as is_scalar_of, scope_at, value_tasks, values_tasks, variable_in};
 ghost use Rattle.ocl_sem.specs.Views.{argument_tasks, bound_tasks, placed_stmt, scope_of, source_task, source_tasks, stmt_of};
 
-use crate::placed::{Part, PlacedExpr, PlacedStmt, SourceTask, SourceTasks};
+use crate::placed::{PlacedExpr, PlacedStmt, SourcePart, SourceTask, SourceTasks};
 use crate::scopes::{Callee, Scope};
 use ocl_ast::Param;
 use ocl_program::{Argument, CallSite, TypedExpr, TypedFunction};
@@ -166,7 +166,7 @@ fn place_body<'a>(
 {
     let inner = scope.inner(source.alloc, callee, args)?;
     match Rc::new(source.alloc, inner) {
-        Ok(inner) => PlacedStmt::new(&inner, Part::Block(callee.function.body.as_slice())),
+        Ok(inner) => PlacedStmt::new(&inner, SourcePart::Block(callee.function.body.as_slice())),
         Err(_) => Err(AllocError),
     }
 }

@@ -1,3 +1,5 @@
 pub mod CostLaws
-pub mod AlikeLaws
 pub mod AlongLaws
+pub mod AlikeLaws
+pub mod TurnLaws
+pub mod RunLaws

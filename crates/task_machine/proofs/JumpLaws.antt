@@ -3,7 +3,8 @@ use Rattle.std.proofs.Common.{◌≡◌, ℕ, List, ◌∷◌, refl, ap, ◌∙�
 use Rattle.task_machine.specs.declared.tasks.Marker.{Marker}
 use Rattle.task_machine.specs.declared.tasks.Marker.TheVariants.{Plain, TurnEnd, TurnStart, BodyEnd}
 use Rattle.task_machine.specs.declared.tasks.Task.{Task}
-use Rattle.task_machine.specs.Tasks.{State, marker_of, left, continued, returned, onward, turning, holding, under}
+use Rattle.step_machine.specs.Stacks.{under}
+use Rattle.task_machine.specs.Tasks.{State, marker_of, left, continued, returned, onward, turning, holding}
 use Rattle.task_machine.specs.Views.{ReturnsAt, ReturnsTo, SkipsTo}
 
 -- a jump over one task, by what the task is for it

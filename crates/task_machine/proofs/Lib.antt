@@ -1,3 +1,2 @@
 pub mod JumpLaws
 pub mod Viewed
-pub mod RunLaws

@@ -1,12 +1,13 @@
 -- What the machine does with tasks does not look into the expressions and statements that wait.
-use Rattle.std.proofs.Common.{◌≡◌, ℕ, List, [], ◌∷◌, Option, None, Some, Result, Ok, Err, OnOk, refl, ap, ◌∙◌}
+use Rattle.std.proofs.Common.{◌≡◌, ℕ, List, [], ◌∷◌, Option, None, Some, Result, Ok, Err, OnOk, refl, ap, sym, ◌∙◌}
 use Rattle.vx_base.specs.declared.types.Elem.{Elem}
 use Rattle.item_settings.specs.Settings.{Setting}
 use Rattle.task_machine.specs.declared.tasks.Marker.{Marker}
 use Rattle.task_machine.specs.declared.tasks.Marker.TheVariants.{Plain, TurnEnd, TurnStart, BodyEnd}
 use Rattle.task_machine.specs.declared.tasks.Task.{Task}
 use Rattle.task_machine.specs.declared.tasks.Task.TheVariants.{Number, Variable, Unary, Binary, Fit, Call, Truth, AndThen, OrElse, Choose, Load, Reread, Store, Clear, Assign, Discard, Wait, Branch, Enter, EnterTurn, Decide, Begin, Again, Invoke, CallEnd, Break, Continue, Return}
-use Rattle.task_machine.specs.Tasks.{State, marker_of, left, continued, returned, turning, under}
+use Rattle.step_machine.specs.Stacks.{under}
+use Rattle.task_machine.specs.Tasks.{State, marker_of, left, continued, returned, turning}
 use Rattle.task_machine.specs.Views.{assigned, computed, state_by, task_by, tasks_by, told_value}
 use Rattle.task_machine.proofs.JumpLaws.{left_by, continued_by, returned_by}
 
@@ -79,6 +80,11 @@ module _ {V T V' T' : Type 0} where
   pub told_viewed : (f : V → V') (g : T → T') (kept : Option Elem) (answer : ℕ) (s : State V T) → told_value kept answer (state_by f g s) ≡ state_by f g (told_value kept answer s)
   told_viewed f g None answer s = refl
   told_viewed f g (Some elem) answer s = refl
+
+  -- the same of a state behind an answer
+  pub told_so : {A E : Type 0} (r : Result A E) (f : V → V') (g : T → T') (kept : Option Elem) (answer : ℕ) (s s' : State V T)
+      → OnOk r (s' ≡ told_value kept answer s) → OnOk r (state_by f g s' ≡ told_value kept answer (state_by f g s))
+  told_so r f g kept answer s s' h = on_done r (λ e. ap (state_by f g) e ∙ sym (told_viewed f g kept answer s)) h
 
   pub marker_viewed : (f : V → V') (g : T → T') (t : Task V T) → marker_of (task_by f g t) ≡ marker_of t
   marker_viewed f g (Number n) = refl

@@ -1,7 +1,7 @@
 -- The small steps of a work-item. What is left to do is a list of tasks; sub-trees that may never be reached, or that are
 -- reached again, stand in it as they are. The machine is the same for every form of program: a form says how its sub-trees
 -- become tasks.
-use Rattle.std.specs.Prelude.{ℕ, ◌+◌, ◌-◌, min, ◌^◌, ◌==◌, nat_lt, Bool, if◌then◌else◌, List, [], ◌∷◌, reverse, Option, None, Some}
+use Rattle.std.specs.Prelude.{ℕ, ◌==◌, nat_lt, Bool, if◌then◌else◌, List, [], ◌∷◌, reverse, Option, None, Some}
 use Rattle.vx_base.specs.Values.{fitted}
 use Rattle.vx_base.specs.declared.types.Pos.{Pos}
 use Rattle.item_acts.specs.declared.acts.Action.TheVariants.{Load as LoadAction, Store as StoreAction, Barrier, Fault, End}
@@ -11,6 +11,8 @@ use Rattle.ocl_program.specs.declared.exprs.Builtin.{Builtin}
 use Rattle.ocl_program.specs.declared.exprs.Builtin.TheVariants.{WorkDim, GlobalId, LocalId, GroupId, GlobalSize, LocalSize, NumGroups, GlobalOffset, Min, Max, Clamp, Abs, MulHi}
 use Rattle.ocl_program.specs.Values.{binary_value, unary_value}
 use Rattle.item_settings.specs.declared.arrays.ItemArray.{ItemArray}
+use Rattle.step_machine.specs.Stacks.{top, under}
+use Rattle.step_machine.specs.Turns.{risen}
 use Rattle.task_machine.specs.Loops.{Loop}
 use Rattle.task_machine.specs.declared.tasks.Marker.{Marker}
 use Rattle.task_machine.specs.declared.tasks.Marker.TheVariants.{Plain, TurnEnd, TurnStart, BodyEnd}
@@ -32,15 +34,7 @@ pub record State (V T : Type 0) : Type 0 where
   pub variables : ℕ → ℕ
   pub turns : List ℕ
 
--- ---- the stacks; what is taken from an empty one is 0
-
-abbrev pub top : List ℕ → ℕ
-top [] = 0
-top (v ∷ vs) = v
-
-abbrev pub under : List ℕ → List ℕ
-under [] = []
-under (v ∷ vs) = vs
+-- ---- parts of a state that are replaced
 
 abbrev pub onward : {V T : Type 0} → List (Task V T) → State V T → State V T
 onward ts s = record s { tasks = ts }
@@ -140,10 +134,6 @@ headed parts loop (Some test) ts = parts.value test (Decide loop ∷ ts)
 -- a turn of a loop
 abbrev pub turned : {V T : Type 0} → Parts V T → Loop V T → List (Task V T) → List (Task V T)
 turned parts loop ts = parts.body loop.body (Again loop ∷ ts)
-
--- one more turn is over; numbers of turns are kept up to 2 ^ 64 - 1, which no run of fewer steps comes to
-abbrev pub risen : List ℕ → List ℕ
-risen ns = min (top ns + 1) (2 ^ 64 - 1) ∷ under ns
 
 -- One small step at a task, where the others are the state's.
 abbrev pub task_step : {V T : Type 0} → Parts V T → Setting → Task V T → State V T → Step (State V T)

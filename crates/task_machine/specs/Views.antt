@@ -3,24 +3,20 @@ use Rattle.std.specs.Prelude.{◌≡◌, ℕ, nat_lt, ◌==◌, map, option_map,
 use Rattle.vx_base.specs.Values.{fitted}
 use Rattle.vx_base.specs.declared.types.Elem.{Elem}
 use Rattle.vx_base.specs.declared.types.Pos.{Pos}
-use Rattle.item_acts.specs.declared.acts.Action.{Action}
 use Rattle.item_acts.specs.declared.acts.Action.TheVariants.{Load as LoadAction, Store as StoreAction, Fault}
-use Rattle.item_acts.specs.declared.acts.Asked.{Asked}
-use Rattle.item_acts.specs.declared.acts.Asked.TheVariants.{Act, Running}
-use Rattle.item_acts.specs.Machine.{Step, Go, Ask, Stop}
 use Rattle.ocl_program.specs.declared.exprs.ArrayRef.{ArrayRef}
 use Rattle.ocl_program.specs.Values.{binary_value, unary_value}
 use Rattle.item_settings.specs.Settings.{Setting, elem_size, element_in, low_bytes}
-use Rattle.task_machine.specs.declared.runs.Turn.{Turn}
-use Rattle.task_machine.specs.declared.runs.Turn.TheVariants.{Goes, Is}
-use Rattle.task_machine.specs.declared.states.Found.{Found}
-use Rattle.task_machine.specs.declared.states.Found.TheVariants.{Moved, Asks, Stops}
+use Rattle.step_machine.specs.declared.steps.Found.{Found}
+use Rattle.step_machine.specs.declared.steps.Found.TheVariants.{Moved, Asks, Stops}
+use Rattle.step_machine.specs.Stacks.{top, under}
+use Rattle.step_machine.specs.Turns.{risen}
 use Rattle.task_machine.specs.declared.states.State.{State as HeldState}
 use Rattle.task_machine.specs.Loops.{Loop}
 use Rattle.task_machine.specs.declared.tasks.Task.{Task}
 use Rattle.task_machine.specs.declared.tasks.Task.TheVariants.{Number, Variable, Unary, Binary, Fit, Call, Truth, AndThen, OrElse, Choose, Load, Reread, Store, Clear, Assign, Discard, Wait, Branch, Enter, EnterTurn, Decide, Begin, Again, Invoke, CallEnd, Break, Continue, Return}
 use Rattle.task_machine.specs.Tasks as machine
-use Rattle.task_machine.specs.Tasks.{Parts, State, called, headed, holding, onward, optional, risen, top, turned, turning, under, with_variable}
+use Rattle.task_machine.specs.Tasks.{Parts, State, called, headed, holding, onward, optional, turned, turning, with_variable}
 
 -- ---- states
 
@@ -76,19 +72,13 @@ abbrev pub told_value : {V T : Type 0} → Option Elem → ℕ → State V T →
 told_value None answer s = s
 told_value (Some elem) answer s = holding (fitted elem answer ∷ s.values) s
 
--- what a step found, where the state behind it is this one
-abbrev pub shown : {V T : Type 0} → Found → State V T → Step (State V T)
-shown Moved s = Go s
-shown (Asks a kept) s = Ask a (λ answer. told_value kept answer s)
-shown (Stops a) s = Stop a
-
 -- what a load of element i finds, and a store to it
-abbrev pub found_load : Setting → ArrayRef → ℕ → Pos → Found
+abbrev pub found_load : Setting → ArrayRef → ℕ → Pos → Found (Option Elem)
 found_load at array i pos =
     if nat_lt i (at.array array).count then Asks (LoadAction (element_in at.group (at.array array) i) (elem_size (at.array array).elem)) (Some (at.array array).elem)
     else Stops (Fault pos)
 
-abbrev pub found_store : Setting → ArrayRef → ℕ → ℕ → Pos → Found
+abbrev pub found_store : Setting → ArrayRef → ℕ → ℕ → Pos → Found (Option Elem)
 found_store at array i v pos =
     if nat_lt i (at.array array).count then
     (if (at.array array).writable then Asks (StoreAction (element_in at.group (at.array array) i) (elem_size (at.array array).elem) (low_bytes (at.array array).elem v)) None
@@ -159,15 +149,3 @@ ReturnsTo {V = V} {T = T} before turns after turns' = (s : State V T) → machin
 -- a `return` over these tasks ends here
 abbrev pub ReturnsAt : {V T : Type 0} → List (Task V T) → List ℕ → List (Task V T) → List ℕ → Type 0
 ReturnsAt {V = V} {T = T} before turns after turns' = (s : State V T) → machine.returned before (machine.turning turns s) ≡ machine.onward after (machine.turning turns' s)
-
--- ---- answers
-
--- what is asked for behind a turn, by what is asked for after the answers that are left
-abbrev pub went : Turn → (List ℕ → Asked) → Asked
-went (Goes answers) next = next answers.now
-went (Is a) next = a
-
--- an action, where no answer is left
-abbrev pub without_answers : Action → List ℕ → Asked
-without_answers action [] = Act action
-without_answers action (answer ∷ answers) = Running

@@ -1,6 +1,7 @@
 //! Parts that run by a value.
 ghost use Rattle.std.specs.Prelude.{◌≡◌, OnOk};
-ghost use Rattle.task_machine.specs.Tasks.{holding, onward, top, under};
+ghost use Rattle.step_machine.specs.Stacks.{top, under};
+ghost use Rattle.task_machine.specs.Tasks.{holding, onward};
 ghost use Rattle.task_machine.specs.Views.{chosen, state_of, task_by};
 
 use crate::forms::Form;

@@ -5,10 +5,10 @@ ghost use Rattle.task_machine.specs.Tasks.{marker_of};
 ghost use Rattle.task_machine.specs.Views.{ReturnsAt, SkipsTo, jumped, plain, state_of, task_by};
 
 use crate::forms::Form;
-use crate::loops::leave_turns;
-use crate::states::{State, Turns};
+use crate::states::State;
 use crate::tasks::{Marker, Task, Tasks};
 use std::alloc::AllocError;
+use step_machine::{Turns, leave_turns};
 
 /// What a helper gives that comes to its end without `return`.
 const GIVEN_AT_END: u32 = 0;

@@ -1,32 +1,16 @@
 //! Loops and their turns.
-ghost use Rattle.std.specs.Prelude.{◌≡◌, OnOk, option_map};
-ghost use Rattle.task_machine.specs.Tasks.{headed, risen, turned, under};
+ghost use Rattle.std.specs.Prelude.{◌≡◌, ◌-◌, ◌^◌, OnOk, option_map};
+ghost use Rattle.step_machine.specs.Turns.{EachBelow};
+ghost use Rattle.task_machine.specs.Tasks.{headed, turned};
 ghost use Rattle.task_machine.specs.Views.{decided, loop_by, looped, state_of, task_by, tasks_by};
 
 use crate::forms::Form;
-use crate::states::{State, Turns};
+use crate::states::State;
 use crate::tasks::{Task, Tasks};
 use crate::turnings::Loop;
 use crate::values::take;
 use std::alloc::AllocError;
-
-/// The innermost loop is left.
-pub fn leave_turns(turns: &mut Turns)
-    ensures { turns.new ≡ under turns.old }
-{
-    let _left = turns.pop();
-}
-
-/// One more turn of the innermost loop is over.
-fn raise(turns: &mut Turns) -> Result<(), AllocError>
-    ensures { OnOk result (turns.new ≡ risen turns.old) }
-{
-    let over = match turns.pop() {
-        Some(turn) => turn,
-        None => 0,
-    };
-    turns.push(over.saturating_add(1))
-}
+use step_machine::{enter_turns, leave_turns, raise};
 
 /// A turn of a loop.
 fn push_turn<F: Form>(
@@ -66,15 +50,16 @@ impl<V: Drop, T: Drop> State<V, T> {
         form: &F,
         task: Task<V, T>,
     ) -> Result<(), AllocError>
+        requires below { EachBelow (2 ^ 64 - 1) self.now.turns }
         ensures { OnOk result (state_of F.expr_of F.stmt_of self.new ≡ looped (F.parts form.now) (task_by F.expr_of F.stmt_of task) (state_of F.expr_of F.stmt_of self.old)) }
     {
         match task {
             Task::Enter(turning) => {
-                self.turns.push(0)?;
+                enter_turns(&mut self.turns)?;
                 push_head(form, &mut self.tasks, turning)
             }
             Task::EnterTurn(turning) => {
-                self.turns.push(0)?;
+                enter_turns(&mut self.turns)?;
                 self.tasks.push(Task::Begin(turning))
             }
             Task::Decide(turning) => self.decide(form, turning),

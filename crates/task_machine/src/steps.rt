@@ -1,17 +1,21 @@
 //! The small steps of a work-item.
-ghost use Rattle.std.specs.Prelude.{◌≡◌, IfOk};
+ghost use Rattle.std.specs.Prelude.{◌≡◌, ◌-◌, ◌^◌, IfOk};
 ghost use Rattle.item_settings.specs.Views.{HasRoom, setting_in};
+ghost use Rattle.step_machine.specs.Steps.{shown};
+ghost use Rattle.step_machine.specs.Turns.{EachBelow};
 ghost use Rattle.task_machine.specs.Tasks.{step as step_of_item, task_step};
-ghost use Rattle.task_machine.specs.Views.{shown, state_of, task_by};
+ghost use Rattle.task_machine.specs.Views.{state_of, task_by, told_value};
 
 use crate::accesses::{load, store};
 use crate::forms::Form;
-use crate::states::{Found, State};
+use crate::states::State;
 use crate::tasks::Task;
 use crate::values::take;
 use item_acts::{Action, Point};
 use item_settings::Setting;
 use std::alloc::{AllocError, Global};
+use step_machine::Found;
+use vx_base::Elem;
 
 impl<V: Drop, T: Drop> State<V, T> {
     /// One small step: what it found, and the state behind it.
@@ -20,9 +24,10 @@ impl<V: Drop, T: Drop> State<V, T> {
         alloc: Global,
         form: &F,
         at: &Setting<'_>,
-    ) -> Result<Found, AllocError>
+    ) -> Result<Found<Option<Elem>>, AllocError>
         requires room { HasRoom (setting_in at.now) }
-        ensures { IfOk result (λ found. step_of_item (F.parts form.now) (setting_in at.now) (state_of F.expr_of F.stmt_of self.old) ≡ shown found (state_of F.expr_of F.stmt_of self.new)) }
+        requires below { EachBelow (2 ^ 64 - 1) self.now.turns }
+        ensures { IfOk result (λ found. step_of_item (F.parts form.now) (setting_in at.now) (state_of F.expr_of F.stmt_of self.old) ≡ shown told_value found (state_of F.expr_of F.stmt_of self.new)) }
     {
         match self.tasks.pop() {
             Some(task) => self.perform(alloc, form, at, task),
@@ -37,9 +42,10 @@ impl<V: Drop, T: Drop> State<V, T> {
         form: &F,
         at: &Setting<'_>,
         task: Task<V, T>,
-    ) -> Result<Found, AllocError>
+    ) -> Result<Found<Option<Elem>>, AllocError>
         requires room { HasRoom (setting_in at.now) }
-        ensures { IfOk result (λ found. task_step (F.parts form.now) (setting_in at.now) (task_by F.expr_of F.stmt_of task) (state_of F.expr_of F.stmt_of self.old) ≡ shown found (state_of F.expr_of F.stmt_of self.new)) }
+        requires below { EachBelow (2 ^ 64 - 1) self.now.turns }
+        ensures { IfOk result (λ found. task_step (F.parts form.now) (setting_in at.now) (task_by F.expr_of F.stmt_of task) (state_of F.expr_of F.stmt_of self.old) ≡ shown told_value found (state_of F.expr_of F.stmt_of self.new)) }
     {
         match task {
             Task::Load { array, pos } => {

@@ -1,8 +1,8 @@
 //! What is left to do.
 use crate::turnings::Loop;
-use item_settings::Stack;
 use ocl_ast::{BinOp, UnOp};
 use ocl_program::{ArrayRef, Builtin};
+use step_machine::Stack;
 use vx_base::{Elem, Pos};
 
 /// A task, over expressions V and statements T that wait as they are. Values are taken from a stack and put onto it. Numbers

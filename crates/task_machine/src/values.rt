@@ -2,7 +2,8 @@
 ghost use Rattle.std.specs.Prelude.{◌≡◌, ◌∷◌, ◌==◌, OnOk, if◌then◌else◌};
 ghost use Rattle.vx_base.specs.Values.{fitted};
 ghost use Rattle.ocl_program.specs.Values.{binary_value as binary_of, unary_value as unary_of};
-ghost use Rattle.task_machine.specs.Tasks.{called, top, under};
+ghost use Rattle.step_machine.specs.Stacks.{top, under};
+ghost use Rattle.task_machine.specs.Tasks.{called};
 ghost use Rattle.item_settings.specs.Views.{setting_in};
 ghost use Rattle.task_machine.specs.Views.{assigned, computed, plain};
 

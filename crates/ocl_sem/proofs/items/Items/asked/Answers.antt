@@ -10,4 +10,4 @@ returns c =
     let items = c.args.self.now in
     asked_as c.run.result (map function_node items.program.now) (function_node items.kernel.now) items.range items.bounds c.args.item c.args.answers.now c.args.fuel
     c.as_slice.result.now c.as_slice-2.result.now c.as_slice-3.result.now (state_of expr_of stmt_of c.in_ok-state.state)
-    c.as_slice.ensures c.as_slice-2.ensures.value c.as_slice-3.ensures c.in_ok-state.ensures c.run.ensures
+    c.as_slice.ensures c.as_slice-2.ensures.value c.as_slice-3.ensures c.in_ok-state.ensures.start c.run.ensures

@@ -1,11 +1,11 @@
-//! Parameters of kernels once more, as passes hand them on.
+//! Parameters once more.
 ghost use Rattle.std.specs.Prelude.{◌≡◌, IfOk};
 
 use ocl_ast::{Ident, Param, ParamList};
 use std::alloc::Global;
 use vx_base::{Memory, Text};
 
-/// Parameters once more, in a list of their own.
+/// Parameters once more.
 pub fn copied_params(alloc: Global, params: &[Param]) -> Result<ParamList, Memory>
     ensures { IfOk result (λ copy. copy ≡ params.now) }
 {

@@ -1,5 +1,5 @@
 use Rattle.std.proofs.Common.{◌≡◌, take}
-use Rattle.kir.proofs.copies.copied_params.Given as goal
+use Rattle.item_settings.proofs.params.copied_params.Given as goal
 
 abbrev pub invariant-loop-param : goal.invariant-loop-param
 invariant-loop-param l = l.items.items ≡ take l.param-index l.params
