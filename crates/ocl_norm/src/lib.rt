@@ -2,8 +2,8 @@
 //!
 //! `specs/Operators.antt` says which operations an operator comes to, and `specs/Normal.antt` what expressions and statements do: `&&`,
 //! `||` and `?:` are branches, loads stand from left to right behind their checks, and a `return` leaves its value in a variable of its
-//! call. `specs/Laws.antt` and `specs/Kept.antt` say what the code keeps of the kernel, and `specs/Proper.antt` of which kernels this is
-//! asked. [`normalise`] makes it, and [`fits`] tells whether its variables can be numbered.
+//! call. `specs/Laws.antt` and `specs/Kept.antt` say what the code keeps of the kernel, and `specs/Proper.antt` of `ocl_inline` of
+//! which kernels this is asked. [`normalise`] makes it, and [`fits`] tells whether its variables can be numbered.
 #![tactic(auto)]
 
 pub mod arguments;
