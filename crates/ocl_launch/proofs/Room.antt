@@ -5,7 +5,6 @@ use Rattle.std.specs.Prelude.{option_map, slice_get}
 use Rattle.std.specs.List.{list_all}
 use Rattle.vx_base.specs.Values.{elem_bytes}
 use Rattle.vx_base.specs.declared.types.Elem.{Elem}
-use Rattle.vx_base.specs.declared.types.Elem.TheVariants.{Char, Uchar, Short, Ushort, Int, Uint}
 use Rattle.vx_base.specs.declared.types.ParamKind.{ParamKind}
 use Rattle.vx_base.specs.declared.types.ParamKind.TheVariants.{Scalar, Pointer}
 use Rattle.item_acts.specs.declared.acts.Bound.{Bound}
@@ -14,33 +13,16 @@ use Rattle.ocl_ast.specs.declared.units.Param.{Param}
 use Rattle.ocl_program.specs.declared.exprs.ArrayRef.TheVariants.{Parameter, Declared}
 use Rattle.ocl_program.specs.declared.functions.LocalArray.{LocalArray}
 use Rattle.ocl_program.specs.Nodes.{FunctionNode}
-use Rattle.item_settings.specs.declared.arrays.ItemArray.{ItemArray}
 use Rattle.ocl_sem.specs.Launched.{IsRoomy}
-use Rattle.item_settings.specs.Settings.{array_bound, bound_array, declared_array}
+use Rattle.item_settings.specs.Settings.{array_bound, bound_array}
 use Rattle.item_settings.specs.Views as views
 use Rattle.ocl_types.specs.Functions.{IsProgram}
 use Rattle.program_laws.proofs.Bodies.{arrays_small}
+use Rattle.program_laws.proofs.Rooms.{HasRoom, declared_room}
 use Rattle.ocl_inline.specs.Expansion.{kernel_flat}
 use Rattle.ocl_inline.specs.FlatItems.{flat_at}
 use Rattle.ocl_inline.specs.Trees.{FlatKernel}
 use Rattle.ocl_launch.specs.Fitting.{is_fitting, are_fitting, params_at, params_of}
-
--- an array ends within 2 ^ 32 bytes
-abbrev HasRoom : ItemArray → Type 0
-HasRoom array = array.count * elem_bytes array.elem ≤ 2 ^ 32
-
--- few elements have room, whatever their type
-few_have_room : (elem : Elem) (count : ℕ) → count ≤ 262144 → count * elem_bytes elem ≤ 2 ^ 32
-few_have_room Char count few = omega arith
-few_have_room Uchar count few = omega arith
-few_have_room Short count few = omega arith
-few_have_room Ushort count few = omega arith
-few_have_room Int count few = omega arith
-few_have_room Uint count few = omega arith
-
-declared_room : (params : List Param) (k : ℕ) (array : Option LocalArray) → ((a : LocalArray) → array ≡ Some a → a.count ≤ 262144) → HasRoom (declared_array params k array)
-declared_room params k None few = omega arith
-declared_room params k (Some a) few = few_have_room a.elem a.count (few a refl)
 
 fitting_room : (kind : ParamKind) (bound : Bound) → is_fitting kind bound ≡ true → HasRoom (bound_array kind bound)
 fitting_room (Scalar elem) (Value value) fits = omega arith

@@ -11,4 +11,5 @@ pub mod Keeping
 pub mod Forming
 pub mod Limits
 pub mod Levels
+pub mod Rooms
 pub mod WorkedForms

@@ -1,0 +1,4 @@
+pub mod Source
+pub mod Ready
+pub mod Passes
+pub mod Laws
