@@ -1,0 +1,108 @@
+ghost use Rattle.std.specs.Prelude.{◌≡◌, ◌<◌, length, IfOk, bit_and};
+ghost use Rattle.memory_banks.specs.Ports.{IsOf, number, numbers, opening_of};
+
+use memory_banks::{Banks, Bus, PlainBus, Port, PortBus, bank_of, close, gather, ports, renew};
+use std::alloc::Global;
+use std::test::Fail;
+use std::thread::{Threads, join};
+use vx_base::{ListOf, WordList};
+
+fn words_of(alloc: Global, words: &[u32]) -> Result<WordList, Fail>
+    ensures { IfOk result (λ v. v ≡ words.now) }
+{
+    Ok(ListOf {
+        items: words.to_vec(alloc)?,
+    })
+}
+
+// Stores the numbers from 1 to 1000, by their low eight bits, to two bytes of word 0.
+fn store_bytes(banks: &Banks, mut port: Port, keep: u32, shift: u32) -> Port
+    requires of { IsOf banks.now port }
+    requires words { 0 < length (opening_of banks.now) }
+    requires shift { shift < 32 }
+    ensures { IsOf banks.now result × (number result ≡ number port) × (numbers result ≡ numbers port) }
+{
+    for count in 0..1000 {
+        let value = ((count + 1) & 0xff) << shift;
+        if keep & value == 0 {
+            port.store_part(banks, 0, keep, value);
+        }
+    }
+    port
+}
+
+fn store_both<R: Threads + Sync>(rt: &R, alloc: Global) -> Result<u32, Fail> {
+    let mut out = words_of(alloc, &[0x5566_7788])?;
+    let (banks, mut first) = Banks::of_words(alloc, &out)?;
+    let mut made = ports(alloc, &banks, &mut first, 1)?;
+    let Some(second) = made.items.pop() else {
+        unreachable!()
+    };
+    let (mut first, second) = join(
+        rt,
+        || -> Port
+            requires { IsOf banks first × (0 < length (opening_of banks)) }
+            ensures { IsOf banks result × (number result ≡ number first) × (numbers result ≡ numbers first) }
+        { store_bytes(&banks, first, 0xff00_ffff, 16) },
+        || -> Port
+            requires { IsOf banks second × (0 < length (opening_of banks)) }
+            ensures { IsOf banks result × (number result ≡ number second) × (numbers result ≡ numbers second) }
+        { store_bytes(&banks, second, 0xffff_ff00, 0) },
+    );
+    made.items.push(second)?;
+    gather(&banks, &mut first, made);
+    close(banks, first, &mut out);
+    Ok(out.get(0).copied().unwrap_or(0))
+}
+
+#[test]
+fn two_threads_store_bytes_of_one_word(rt: HostRuntime) -> Result<(), Fail> {
+    let word = store_both(&rt, rt.alloc())?;
+    assert_eq!(rt; word, 0x55e8_77e8);
+    Ok(())
+}
+
+// Two words: what `second` then loads after a renewal is what `first` stored.
+fn load_after_renewal(alloc: Global) -> Result<[u32; 4], Fail> {
+    let words = words_of(alloc, &[7, 8])?;
+    let (banks, mut first) = Banks::of_words(alloc, &words)?;
+    let mut list = ports(alloc, &banks, &mut first, 1)?;
+    first.store(&banks, 1, 50);
+    renew(&banks, &mut first, &mut list);
+    let Some(mut second) = list.items.pop() else {
+        return Ok([0, 0, 0, 0]);
+    };
+    let loaded = second.load(&banks, 1);
+    second.store_part(&banks, 1, 0xffff_ff00, 0x34);
+    let untouched = second.load(&banks, 0);
+    let mut bus = PortBus {
+        banks: &banks,
+        port: second,
+    };
+    let through = bus.load(1);
+    let count = bus.words();
+    Ok([loaded, untouched, through, count])
+}
+
+#[test]
+fn a_renewed_port_loads_what_was_stored(rt: HostRuntime) -> Result<(), Fail> {
+    assert_eq!(rt; load_after_renewal(rt.alloc())?, [50, 7, 0x34, 2]);
+    Ok(())
+}
+
+#[test]
+fn a_plain_bus_keeps_its_words(rt: HostRuntime) -> Result<(), Fail> {
+    let mut bus = PlainBus::new(words_of(rt.alloc(), &[1, 0x1111_1111])?);
+    bus.store(0, 9);
+    bus.store_part(1, 0xffff_0000, 0x2222);
+    assert_eq!(rt; bus.load(1), 0x1111_2222);
+    assert_eq!(rt; bus.words(), 2);
+    let words = bus.into_words();
+    assert_eq!(rt; words.as_slice(), [9, 0x1111_2222].as_slice());
+    Ok(())
+}
+
+#[test]
+fn lines_take_turns_over_banks(rt: HostRuntime) {
+    assert_eq!(rt; bank_of(13, 4), 1);
+}
