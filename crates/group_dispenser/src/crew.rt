@@ -26,7 +26,7 @@ pub fn claimers(
     ensures made { IfOk result (λ v. All (λ p. IsOf d.now p × (lists p ≡ [] ∷ []) × (spare p ≡ 0)) v) }
     ensures spare { OnOk result (spare c.new + n ≡ 8) }
     ensures same { IsOf d.now c.new × (lists c.new ≡ lists c.old) }
-    ensures err { OnErr result (spare c.new ≡ 8) }
+    ensures err { OnErr result (c.new ≡ c.old) }
 {
     let mut items = Vec::with_capacity(alloc, n as usize)?;
     for made in 0..n {

@@ -1,5 +1,5 @@
 -- The bits that a part store keeps and those that it sets are apart.
-use Rattle.std.proofs.Common.{◌≡◌, ℕ, ◌-◌, ◌*◌, ◌%◌, ◌^◌, ◌<◌, subst, arith}
+use Rattle.std.proofs.Common.{◌≡◌, ℕ, zero, suc, ◌-◌, ◌*◌, ◌%◌, ◌^◌, ◌<◌, subst, arith}
 use Rattle.std.specs.Prelude.{bit_and, min}
 use Rattle.std.specs.Int.{bit_at, w32}
 use Rattle.std.specs.Int.Bits.{and_lt}
@@ -33,3 +33,11 @@ pub same_bits : {B : Type 0} (acts : B → BusEntry → B → Type 0) (number wo
     → ActsTwice acts number word (kept_bits at size) (written_bits value at size) b c
 same_bits acts number word at value size bits b c same made =
     subst (λ (n : ℕ). ActsTwice acts number word (2 ^ 32 - 1 - n) (bit_and (value * 2 ^ (8 * at) % 2 ^ 32) n) b c) same made
+
+-- a part of a word keeps some bits
+pub keeps_some : (at : ℕ) → at < 4 → (kept_bits at One ≡ 0 → ⊥) × (kept_bits at Two ≡ 0 → ⊥)
+keeps_some zero below = (λ none. omega (arith, none), λ none. omega (arith, none))
+keeps_some (suc zero) below = (λ none. omega (arith, none), λ none. omega (arith, none))
+keeps_some (suc (suc zero)) below = (λ none. omega (arith, none), λ none. omega (arith, none))
+keeps_some (suc (suc (suc zero))) below = (λ none. omega (arith, none), λ none. omega (arith, none))
+keeps_some (suc (suc (suc (suc at)))) below = let none : ⊥ = omega (arith, below) in absurd none

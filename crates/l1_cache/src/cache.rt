@@ -1,16 +1,16 @@
 ghost use Rattle.std.specs.Prelude.{◌≡◌, ◌+◌, ◌*◌, ◌/◌, ◌%◌, ◌≤◌, ◌<◌, IfOk};
 ghost use Rattle.vx_base.specs.Bytes.{bytes_of};
 ghost use Rattle.memory_banks.specs.Buses.{ActsTwice};
-ghost use Rattle.l1_cache.specs.Lines.{ReadsField, StoresField, WritesField, kept_bits, no_lines, written_bits};
+ghost use Rattle.l1_cache.specs.Accesses.{CarriesChange, ReadsField, WritesField};
+ghost use Rattle.l1_cache.specs.Lines.{change_of, emptied, kept_bits, no_lines, written_bits};
 
 use crate::evictor::Evictor;
 use crate::field::{field_bits, part_of};
 use memory_banks::Bus;
 use std::alloc::Global;
-use std::marker::Model;
 use vx_base::{Memory, Size};
 
-/// The cache of a core. Contracts see it as the lines that each set keeps, and its counts.
+/// The cache of a core. Contracts see it by `lines_of`: the lines that each set keeps, the changes that wait, and its counts.
 #[derive(Debug, Drop)]
 pub struct Cache {
     sets: u32,
@@ -18,21 +18,14 @@ pub struct Cache {
     misses: u64,
 }
 
-impl Model for Cache {
-    ghost use Rattle.std.specs.Prelude.{[], replicate};
-    ghost use Rattle.l1_cache.specs.Lines.{Lines};
-
-    ghost Value = { Lines };
-
-    ghost view = { λ c. record { set_count = c.sets; sets = replicate c.sets []; hits = c.hits; misses = c.misses } };
-}
-
 impl Cache {
+    ghost use Rattle.l1_cache.specs.Caches.{lines_of};
+
     /// A cache of 1 to 64 sets with 1 to 8 ways each, that keeps no line.
     pub fn new(_alloc: Global, sets: u32, _ways: u32) -> Result<Cache, Memory>
         requires sets { (1 ≤ sets) × (sets ≤ 64) }
         requires ways { (1 ≤ _ways) × (_ways ≤ 8) }
-        ensures { IfOk result (λ cache. cache ≡ no_lines sets) }
+        ensures { IfOk result (λ cache. lines_of cache ≡ no_lines sets 0 0) }
     {
         Ok(Cache {
             sets,
@@ -53,7 +46,7 @@ impl Cache {
         requires sound { B.is_sound bus.old }
         requires aligned { address % bytes_of size ≡ 0 }
         requires line { address / 64 * 16 + 16 ≤ B.count bus.old }
-        ensures read { ReadsField B.acts E.evicts (B.number bus.old) address size self.old bus.old _evict.old result self.new bus.new _evict.new }
+        ensures read { ReadsField B.acts E.evicts (B.number bus.old) address size (lines_of self.old) bus.old _evict.old result (lines_of self.new) bus.new _evict.new }
         ensures sound { B.is_sound bus.new }
         ensures same_bus { (B.count bus.new ≡ B.count bus.old) × (B.number bus.new ≡ B.number bus.old) }
     {
@@ -67,7 +60,7 @@ impl Cache {
         requires sound { B.is_sound bus.old }
         requires aligned { address % bytes_of size ≡ 0 }
         requires line { address / 64 * 16 + 16 ≤ B.count bus.old }
-        ensures written { WritesField B.acts (B.number bus.old) address size value self.old bus.old self.new bus.new }
+        ensures written { WritesField B.acts (B.number bus.old) address size value (lines_of self.old) bus.old (lines_of self.new) bus.new }
         ensures sound { B.is_sound bus.new }
         ensures same_bus { (B.count bus.new ≡ B.count bus.old) × (B.number bus.new ≡ B.number bus.old) }
     {
@@ -76,7 +69,7 @@ impl Cache {
 
     /// Lets go all lines, and begins to count anew.
     pub fn invalidate(&mut self)
-        ensures { self.new ≡ no_lines self.old.set_count }
+        ensures { lines_of self.new ≡ emptied (lines_of self.old) }
     {
         self.hits = 0;
         self.misses = 0;
@@ -84,14 +77,14 @@ impl Cache {
 
     /// How many reads found their line.
     pub fn hits(&self) -> u64
-        ensures { result ≡ self.now.hits }
+        ensures { result ≡ (lines_of self.now).hits }
     {
         self.hits
     }
 
     /// How many reads did not find their line.
     pub fn misses(&self) -> u64
-        ensures { result ≡ self.now.misses }
+        ensures { result ≡ (lines_of self.now).misses }
     {
         self.misses
     }
@@ -101,7 +94,7 @@ impl Cache {
 fn store_field<B: Bus>(bus: &mut B, address: u32, size: Size, value: u32)
     requires sound { B.is_sound bus.old }
     requires word { address / 4 < B.count bus.old }
-    ensures stored { StoresField B.acts (B.number bus.old) address size value bus.old bus.new }
+    ensures stored { CarriesChange B.acts (B.number bus.old) (change_of address size value) bus.old bus.new }
     ensures sound { B.is_sound bus.new }
     ensures same_bus { (B.count bus.new ≡ B.count bus.old) × (B.number bus.new ≡ B.number bus.old) }
 {

@@ -10,5 +10,6 @@
 pub mod cache;
 pub mod evictor;
 mod field;
+
 pub use cache::Cache;
 pub use evictor::{EvictOldest, Evictor};

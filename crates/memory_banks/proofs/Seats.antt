@@ -1,6 +1,6 @@
 -- Views that are cut, joined and closed keep the rule.
 use Rattle.std.proofs.Common.{◌≡◌, ℕ, zero, suc, ◌^◌, ◌<◌, ⊎_elim, inl, inr, List, [], ◌∷◌, ◌++◌, length, set, refl, ap, sym, ◌∙◌, subst, All, arith, length-append}
-use Rattle.std.proofs.lemmas.List.{append-nil}
+use Rattle.std.proofs.lemmas.List.{append-nil, get_or_append_left}
 use Rattle.std.proofs.Math.Seq.{get_or-append_seam}
 use mathlib.Core.Option.{some, some-injective, some-ne-none}
 use lib.ListN.{get_elem?}
@@ -10,6 +10,8 @@ use Rattle.memory_banks.specs.declared.entry.BusEntry.{BusEntry}
 use Rattle.memory_banks.specs.declared.rule.View.{View}
 use Rattle.memory_banks.specs.Entries.{entries_of, replay, IsLegal}
 use Rattle.memory_banks.specs.Rule.{Among, Has, Fits, Kept, seat_of, one_of, without, held_of, least_of, giver, given, keeper, handed, teller, note, both, nothing, all_numbers, first_view}
+use Rattle.memory_banks.specs.Ports.{EndsAs}
+use Rattle.memory_banks.proofs.Histories.{IsLegal-front, length-replay}
 use Rattle.memory_banks.proofs.Prefixes.{none_behind, own_entry, entries-append}
 use Rattle.memory_banks.proofs.Sets.{none_among, among_below, only_one, without_among, not_without, least_among, among_all}
 use Rattle.memory_banks.proofs.Steps.{Shared}
@@ -123,20 +125,44 @@ settled_end log seen (e ∷ rest) front ports whole =
     let longer = ap (λ (es : List BusEntry). length es) (sym own ∙ none) in
     absurd (omega (arith, longer))
 
-pub closes : (opening : List ℕ) (id : ℕ) (v : View) (ws : List ℕ) (xs : List (Unit {0})) → Final (Seen (Kept opening) id v) ws xs → v.numbers ≡ 65535
-    → IsLegal opening v.seen × (ws ≡ replay opening v.seen ++ 0 ∷ []) × All (λ w. w < 2 ^ 32) (replay opening v.seen)
-closes opening id v ws xs f all =
+-- at the end there is a history behind what a view has seen, and the words are those that it leaves
+pub closes : (opening : List ℕ) (id : ℕ) (v : View) (ws : List ℕ) (xs : List (Unit {0})) → Final (Seen (Kept opening) id v) ws xs
+    → (words : List ℕ) × EndsAs opening v.numbers v.seen words × (ws ≡ words ++ 0 ∷ []) × All (λ w. w < 2 ^ 32) words × (length words ≡ length opening)
+closes opening id v ws xs f =
     let s : Shared = f.0 in
     let k : Kept opening s = f.1.0 in
     let fits = k.fits id v f.1.1 in
     let rest : List BusEntry = fits.own.begins.0 in
-    let front : v.seen ++ rest ≡ k.log = fits.own.begins.1 in
-    let none : rest ≡ [] = settled_end k.log v.seen rest front k.ports (λ j within. fits.own.whole j (subst (λ (n : ℕ). Among n j) (sym all) (among_all j within))) in
-    let same : k.log ≡ v.seen = sym front ∙ (ap (λ (es : List BusEntry). v.seen ++ es) none ∙ append-nil v.seen) in (
-      subst (IsLegal opening) same k.legal,
-      sym f.2 ∙ (k.words ∙ ap (λ (es : List BusEntry). replay opening es ++ 0 ∷ []) same),
-      subst (λ (es : List BusEntry). All (λ w. w < 2 ^ 32) (replay opening es)) same k.small,
+    let front : v.seen ++ rest ≡ k.log = fits.own.begins.1 in (
+      replay opening k.log,
+      record {
+        behind = rest;
+        none_own = λ j among. none_behind j v.seen rest k.log front (fits.own.whole j among);
+        legal = subst (IsLegal opening) (sym front) k.legal;
+        ports = subst (λ (es : List BusEntry). All (λ e. e.port < 16) es) (sym front) k.ports;
+        words_are = ap (replay opening) (sym front);
+      },
+      sym f.2 ∙ k.words,
+      k.small,
+      length-replay opening k.log,
     )
+
+-- what a port has seen of it
+pub seen_legal : (opening : List ℕ) (numbers : ℕ) (seen : List BusEntry) (words : List ℕ) → EndsAs opening numbers seen words → IsLegal opening seen
+seen_legal opening numbers seen words e = IsLegal-front opening seen e.behind e.legal
+
+pub seen_ports : (opening : List ℕ) (numbers : ℕ) (seen : List BusEntry) (words : List ℕ) → EndsAs opening numbers seen words → All (λ e. e.port < 16) seen
+seen_ports opening numbers seen words e k d within =
+    let longer : k < length (seen ++ e.behind) = omega (arith, within, length-append seen e.behind) in
+    subst (λ (f : BusEntry). f.port < 16) (get_or_append_left seen e.behind d k within) (e.ports k d longer)
+
+pub seen_all : (opening : List ℕ) (numbers : ℕ) (seen : List BusEntry) (words : List ℕ) → numbers ≡ 65535 → EndsAs opening numbers seen words → words ≡ replay opening seen
+seen_all opening numbers seen words all e =
+    let none : e.behind ≡ [] = settled_end (seen ++ e.behind) seen e.behind refl e.ports (λ j within.
+    sym (append-nil (entries_of j seen))
+    ∙ (ap (λ (es : List BusEntry). entries_of j seen ++ es) (sym (e.none_own j (subst (λ (n : ℕ). Among n j) (sym all) (among_all j within))))
+    ∙ sym (entries-append j seen e.behind))) in
+    e.words_are ∙ ap (replay opening) (ap (λ (es : List BusEntry). seen ++ es) none ∙ append-nil seen)
 
 -- a list of one
 alone : {A : Type 0} {x : A} (id : ℕ) (v : A) → get_elem? (x ∷ []) id ≡ some v → (id ≡ 0) × (x ≡ v)

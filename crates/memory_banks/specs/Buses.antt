@@ -1,9 +1,14 @@
 -- What a step does to a bus.
-use Rattle.std.specs.Prelude.{◌≡◌, ℕ, List}
+use Rattle.std.specs.Prelude.{◌≡◌, ℕ, List, [], ◌∷◌}
 use Rattle.memory_banks.specs.declared.entry.BusEntry.{BusEntry}
 use Rattle.memory_banks.specs.declared.port_bus.PortBus.{PortBus}
 use Rattle.memory_banks.specs.Entries.{IsAnswered, after, and_entry, or_entry}
 use Rattle.memory_banks.specs.Ports.{Steps}
+
+-- entries in order lead from one bus to another
+abbrev pub MakesAll : {B : Type 0} → (B → BusEntry → B → Type 0) → B → List BusEntry → B → Type 0
+MakesAll acts b [] c = c ≡ b
+MakesAll {B} acts b (e ∷ entries) c = (between : B) × acts b e between × MakesAll acts between entries c
 
 -- a part store: one entry keeps some bits, and the next sets others
 pub record ActsTwice {B : Type 0} (acts : B → BusEntry → B → Type 0) (number word keep value : ℕ) (b c : B) : Type 0 where

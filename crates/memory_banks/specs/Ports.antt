@@ -1,12 +1,12 @@
 -- What clauses say of ports and banks.
-use Rattle.std.specs.Prelude.{◌≡◌, ◌≢◌, ℕ, ◌==◌, List, [], ◌∷◌, ◌++◌, filter, fold, length, ◌<◌, slice_index_or, bit_or}
+use Rattle.std.specs.Prelude.{◌≡◌, ◌≢◌, ℕ, ◌==◌, List, [], ◌∷◌, ◌++◌, All, filter, fold, length, ◌<◌, slice_index_or, bit_or}
 use Rattle.std.specs.Int.{bit_at}
 use Rattle.std.specs.List.{range_with_len}
 use mathlib.Core.List.{IsPrefix}
 use Rattle.memory_banks.specs.declared.entry.BusEntry.{BusEntry}
 use Rattle.memory_banks.specs.declared.port.Port.{Port}
 use Rattle.memory_banks.specs.declared.banks.Banks.{Banks}
-use Rattle.memory_banks.specs.Entries.{entries_of, and_entry, or_entry, Adds}
+use Rattle.memory_banks.specs.Entries.{entries_of, and_entry, or_entry, replay, Adds, IsLegal}
 use Rattle.memory_banks.specs.Rule.{Among, one_of, without}
 
 -- the words that the banks were made of
@@ -108,3 +108,12 @@ pub record IsSame (banks : Banks) (p q : Port) : Type 0 where
   pub of : IsOf banks q
   pub number_is : number q ≡ number p
   pub seen_is : seen q ≡ seen p
+
+-- The history at its end is what a port with these numbers has seen and what stands behind that, none of it an entry of the
+-- port's numbers. It is legal, each entry is of a port below 16, and it leaves these words
+pub record EndsAs (opening : List ℕ) (numbers : ℕ) (seen : List BusEntry) (words : List ℕ) : Type 0 where
+  pub behind : List BusEntry
+  pub none_own : (k : ℕ) → Among numbers k → entries_of k behind ≡ []
+  pub legal : IsLegal opening (seen ++ behind)
+  pub ports : All (λ e. e.port < 16) (seen ++ behind)
+  pub words_are : words ≡ replay opening (seen ++ behind)

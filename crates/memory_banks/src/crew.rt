@@ -5,7 +5,7 @@ ghost use mathlib.Core.Option.{some};
 ghost use lib.ListN.{get_elem?};
 ghost use mathlib.Core.List.{IsPrefix};
 ghost use Rattle.memory_banks.specs.Entries.{IsLegal, replay};
-ghost use Rattle.memory_banks.specs.Ports.{AreRenewed, HasAll, IsNew, IsOf, IsSame, KeptIn, StandsAs, held, held_set, number, numbers, opening_of, seen, union};
+ghost use Rattle.memory_banks.specs.Ports.{AreRenewed, EndsAs, HasAll, IsNew, IsOf, IsSame, KeptIn, StandsAs, held, held_set, number, numbers, opening_of, seen, union};
 
 use crate::banks::Banks;
 use crate::port::Port;
@@ -132,13 +132,15 @@ fn read_into(closed: &Closed<(), Global>, out: &mut [u32])
     }
 }
 
-/// The words as the history leaves them, once every port is gathered in the first.
+/// The words as the history leaves them, by the first port. Once every port is gathered in it, it has seen the whole history.
 pub fn close(banks: Banks, port: Port, out: &mut WordList)
     requires of { IsOf banks port }
-    requires all { HasAll port }
+    requires first { number port ≡ 0 }
     requires out { length out.old ≡ length (opening_of banks) }
+    ensures history { EndsAs (opening_of banks) (numbers port) (seen port) out.new }
     ensures legal { IsLegal (opening_of banks) (seen port) }
-    ensures words { out.new ≡ replay (opening_of banks) (seen port) }
+    ensures ports { All (λ e. e.port < 16) (seen port) }
+    ensures words { HasAll port → out.new ≡ replay (opening_of banks) (seen port) }
 {
     let Banks { table } = banks;
     let Port {

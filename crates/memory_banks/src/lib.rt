@@ -24,6 +24,7 @@ pub mod plain_bus;
 pub mod port;
 pub mod port_bus;
 pub mod rule;
+
 pub use banks::{Banks, bank_of};
 pub use bus::Bus;
 pub use crew::{PortList, close, gather, ports, renew};
