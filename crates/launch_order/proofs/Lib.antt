@@ -1,1 +1,3 @@
 pub mod Merged
+pub mod Seen
+pub mod Logged
