@@ -1,3 +1,5 @@
 pub mod Merged
 pub mod Seen
 pub mod Logged
+pub mod Following
+pub mod Released
