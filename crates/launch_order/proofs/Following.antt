@@ -129,7 +129,7 @@ module _ (l : Launch) (given final : ℕ → ℕ → ℕ) (cores : ℕ) (events 
   below_all = each_merged (λ x. x.core < cores) events cores (λ core below. every_event (λ e. below) (events core))
 
   -- behind a front of all events comes an event of its core that is sound
-  sound_at : (done tail : List Tagged) (x : Tagged) → merged events cores ≡ done ++ x ∷ tail
+  pub sound_at : (done tail : List Tagged) (x : Tagged) → merged events cores ≡ done ++ x ∷ tail
       → IsSound l cores events known.core_of x.core (own given x.core done) x.event.place x.event.what
   sound_at done tail x split =
       let below : x.core < cores = (each_back (λ y. y.core < cores) done (x ∷ tail) (subst (Each (λ y. y.core < cores)) split below_all)).0 in

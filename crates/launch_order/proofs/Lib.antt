@@ -3,3 +3,4 @@ pub mod Seen
 pub mod Logged
 pub mod Following
 pub mod Released
+pub mod Endings
