@@ -1,0 +1,6 @@
+pub mod Merged
+pub mod Seen
+pub mod Logged
+pub mod Following
+pub mod Released
+pub mod Endings

@@ -1,0 +1,3 @@
+pub mod Events
+pub mod Cores
+pub mod Lists
