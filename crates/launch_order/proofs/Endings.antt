@@ -86,10 +86,10 @@ store_not_project byte core (y ∷ ys) each =
 not_outside : (l : Launch) (p : Place) (n buffer byte : ℕ) → IsInside l p n → slice_index l.buffers buffer ≤ byte → covers p n (Global buffer byte) ≡ false
 not_outside l (Global b at) n buffer byte inside out =
     false_from_ne_true _ (λ e.
-      let within = covers_within b at n buffer byte e in
-      let last : at + n ≤ slice_index l.buffers buffer = subst (λ k. at + n ≤ slice_index l.buffers k) within.0 inside in
-      let below : byte < at + n = within.2 in
-      omega (arith, last, below, out))
+    let within = covers_within b at n buffer byte e in
+    let last : at + n ≤ slice_index l.buffers buffer = subst (λ k. at + n ≤ slice_index l.buffers k) within.0 inside in
+    let below : byte < at + n = within.2 in
+    omega (arith, last, below, out))
 not_outside l (Local group array at) n buffer byte inside out = refl
 
 -- so turns leave such bytes as they are
@@ -194,7 +194,7 @@ module _ (l : Launch) (given final : ℕ → ℕ → ℕ) (cores : ℕ) (events 
   byte_of_core core below buffer byte inside alone =
       known.final_own core below buffer byte inside
       (λ other below' differ. subst (StoreNot (Global buffer byte)) (project_merged events cores other known.rising below')
-        (store_not_project (Global buffer byte) other (merged events cores) (each_with (λ y not same. not (λ e. differ (sym same ∙ e))) (merged events cores) alone)))
+      (store_not_project (Global buffer byte) other (merged events cores) (each_with (λ y not same. not (λ e. differ (sym same ∙ e))) (merged events cores) alone)))
       ∙ ap (λ s. s.bytes (Global buffer byte)) (sym (own_end core below))
       ∙ seen_byte core (Global buffer byte) (merged events cores) alone (start given) (start given) refl
       ∙ ap (λ s. s.bytes (Global buffer byte)) (sym follows_all.same)
@@ -230,7 +230,7 @@ module _ (l : Launch) (given final : ℕ → ℕ → ℕ) (cores : ℕ) (events 
   pub done_leaves : ((core : ℕ) → core < cores → ends core ≡ AllDone) → LaunchLeaves l given final
   done_leaves done =
       let leaves = complete_leaves l given n orderly.settled orderly.positive orderly.tame follows_all.turns
-        (record { allowed = follows_all.allowed; complete = complete_end done }) in
+      (record { allowed = follows_all.allowed; complete = complete_end done }) in
       record {
         turns = leaves.turns;
         first = leaves.first;
@@ -291,8 +291,8 @@ module _ (l : Launch) (given final : ℕ → ℕ → ℕ) (cores : ℕ) (events 
       let cut = front_with core (merged events cores) before behind (project_merged events cores core known.rising below ∙ e) in
       let f = follows_front cut.front cut.rest cut.split in
       let see : (item : ℕ) → known.core_of (group_of l item) ≡ core → SameItem (led (start given) before) (run l (start given) f.turns) item =
-        λ item here. subst₂ (λ s t. SameItem s t item) (ap (led (start given)) cut.projects) (sym f.same)
-          (seen l given final cores events ends known n orderly cut.front cut.rest cut.split core item here) in
+      λ item here. subst₂ (λ s t. SameItem s t item) (ap (led (start given)) cut.projects) (sym f.same)
+      (seen l given final cores events ends known n orderly cut.front cut.rest cut.split core item here) in
       record {
         turns = f.turns;
         allowed = f.allowed;
@@ -300,6 +300,6 @@ module _ (l : Launch) (given final : ℕ → ℕ → ℕ) (cores : ℕ) (events 
         answers = λ item here. (see item here).answers;
         standing = λ item here. (see item here).standing;
         soon = λ item exists here going.
-          let next = orderly.tame.soon f.turns f.allowed (free_faults f.turns f.free) item exists (sym (see item here).standing ∙ going) in
-          (next.0, subst (λ answers. l.asks item answers n ≡ Act next.0) (sym (see item here).answers) next.1);
+            let next = orderly.tame.soon f.turns f.allowed (free_faults f.turns f.free) item exists (sym (see item here).standing ∙ going) in
+            (next.0, subst (λ answers. l.asks item answers n ≡ Act next.0) (sym (see item here).answers) next.1);
       }

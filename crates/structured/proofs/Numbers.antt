@@ -45,12 +45,14 @@ pub normal_barriers : (program : List FunctionNode) → ∥ IsProgram program �
 normal_barriers program typed number f at marked =
     let have : HaveSites program number (kernel_flat program number f) =
     kernel_sites program typed number (kernel_flat program number f) (λ g there. ap (kernel_flat program number) (some_same f g (sym at ∙ there))) f at marked in
-    let keeps : KeepsMeasures (kernel_flat program number f) (normal_kernel (kernel_flat program number f)) = normal_measures (kernel_flat program number f) in
-    (keeps.distinct have.0, are_below (measured own_sites program number) (sites (normal_kernel (kernel_flat program number f)).ops) (λ n.
-    let fewer : count_by (λ (k : ℕ). n == k) (sites (normal_kernel (kernel_flat program number f)).ops) ≤ count_by (λ (k : ℕ). n == k) (flat_sites (kernel_flat program number f).body) = keeps.barriers n in
-    let here : count_by (λ (k : ℕ). n == k) (sites (normal_kernel (kernel_flat program number f)).ops) ≡ met n (sites (normal_kernel (kernel_flat program number f)).ops) =
-    met_counts n (sites (normal_kernel (kernel_flat program number f)).ops) in
-    let there : count_by (λ (k : ℕ). n == k) (flat_sites (kernel_flat program number f).body) ≡ met n (flat_sites (kernel_flat program number f).body) = met_counts n (flat_sites (kernel_flat program number f).body) in
-    let once : met n (flat_sites (kernel_flat program number f).body) ≤ under n (cut (measured own_sites program number)) = met_under (cut (measured own_sites program number)) n (flat_sites (kernel_flat program number f).body) have.0 have.1 in
-    let more : under n (cut (measured own_sites program number)) ≤ under n (measured own_sites program number) = under_more n (cut (measured own_sites program number)) (measured own_sites program number) (omega arith) in
-    omega arith))
+    let keeps : KeepsMeasures (kernel_flat program number f) (normal_kernel (kernel_flat program number f)) = normal_measures (kernel_flat program number f) in (
+      keeps.distinct have.0,
+      are_below (measured own_sites program number) (sites (normal_kernel (kernel_flat program number f)).ops) (λ n.
+          let fewer : count_by (λ (k : ℕ). n == k) (sites (normal_kernel (kernel_flat program number f)).ops) ≤ count_by (λ (k : ℕ). n == k) (flat_sites (kernel_flat program number f).body) = keeps.barriers n in
+          let here : count_by (λ (k : ℕ). n == k) (sites (normal_kernel (kernel_flat program number f)).ops) ≡ met n (sites (normal_kernel (kernel_flat program number f)).ops) =
+          met_counts n (sites (normal_kernel (kernel_flat program number f)).ops) in
+          let there : count_by (λ (k : ℕ). n == k) (flat_sites (kernel_flat program number f).body) ≡ met n (flat_sites (kernel_flat program number f).body) = met_counts n (flat_sites (kernel_flat program number f).body) in
+          let once : met n (flat_sites (kernel_flat program number f).body) ≤ under n (cut (measured own_sites program number)) = met_under (cut (measured own_sites program number)) n (flat_sites (kernel_flat program number f).body) have.0 have.1 in
+          let more : under n (cut (measured own_sites program number)) ≤ under n (measured own_sites program number) = under_more n (cut (measured own_sites program number)) (measured own_sites program number) (omega arith) in
+          omega arith),
+    )

@@ -20,6 +20,7 @@ mod ends;
 pub mod job;
 mod memory;
 mod place;
+
 pub use core_run::Core;
 pub use counts::CoreCounts;
 pub use end::GroupEnd;
