@@ -1,5 +1,5 @@
 -- The flat kernel of a small program, computed: a kernel that calls a helper with a barrier twice.
-use Rattle.std.proofs.Common.{◌≡◌, refl, subst, ℕ, zero, suc, ◌<◌, ◌≤◌, Bool, true, false, List, [], ◌∷◌, slice_get, Some, arith}
+use Rattle.std.proofs.Common.{◌≡◌, refl, subst, ℕ, zero, suc, ◌<◌, ◌≤◌, Bool, true, false, List, [], ◌∷◌, slice_get, None, Some, arith}
 use Rattle.std.specs.Prelude.{codes}
 use Rattle.vx_base.specs.declared.types.Elem.TheVariants.{Int}
 use Rattle.vx_base.specs.declared.types.ParamKind.TheVariants.{Scalar}
@@ -8,7 +8,7 @@ use Rattle.ocl_ast.specs.declared.units.Gives.TheVariants.{Nothing}
 use Rattle.ocl_ast.specs.declared.units.Param.{Param}
 use Rattle.ocl_program.specs.declared.functions.CallSite.{CallSite}
 use Rattle.ocl_program.specs.Measures.{expanded as measured_by, measured, own_calls, own_control, own_depth, own_nodes, own_sites, own_variables}
-use Rattle.ocl_program.specs.Nodes.{NumberNode, VariableNode, CallNode, NoArgs, ValueArg, SetVariableNode, CallStmtNode, BarrierNode, StmtNodes, NoStmts, AndStmt, FunctionNode}
+use Rattle.ocl_program.specs.Nodes.{NumberNode, VariableNode, CallNode, NoArgs, ValueArg, SetVariableNode, CallStmtNode, DeclareNode, BarrierNode, StmtNodes, NoStmts, AndStmt, FunctionNode}
 use Rattle.ocl_inline.specs.Expansion.{expanded, kernel_flat}
 use Rattle.ocl_inline.specs.FlatMeasures.{flat_calls, flat_nodes}
 use Rattle.ocl_inline.specs.FlatNumbers.{flat_sites, flat_variables}
@@ -35,11 +35,12 @@ helper = function_of false
     (record { name = record { text = codes "x"; pos = record { line = 1; col = 1 } }; kind = Scalar Int; constant = false } ∷ []) []
     (AndStmt (BarrierNode 0) (AndStmt (SetVariableNode 0 Int Set false (Some (VariableNode 0 Int))) NoStmts))
 
--- `f(7); f(x); barrier(..);`
+-- `int x; f(7); f(x); barrier(..);`
 abbrev caller : FunctionNode
 caller = function_of true []
     (record { callee = 0; variables = 1; sites = 1 } ∷ record { callee = 0; variables = 2; sites = 2 } ∷ [])
-    (AndStmt (CallStmtNode (CallNode 0 (ValueArg (NumberNode 7 false) NoArgs))) (AndStmt (CallStmtNode (CallNode 1 (ValueArg (VariableNode 0 Int) NoArgs))) (AndStmt (BarrierNode 0) NoStmts)))
+    (AndStmt (DeclareNode 0 Int None)
+    (AndStmt (CallStmtNode (CallNode 0 (ValueArg (NumberNode 7 false) NoArgs))) (AndStmt (CallStmtNode (CallNode 1 (ValueArg (VariableNode 0 Int) NoArgs))) (AndStmt (BarrierNode 0) NoStmts))))
 
 abbrev program : List FunctionNode
 program = helper ∷ caller ∷ []
@@ -48,12 +49,12 @@ sites : flat_sites (kernel_flat program 1 caller).body ≡ 1 ∷ 2 ∷ 0 ∷ []
 unfolding expanded
 sites = refl
 
-variables : flat_variables (kernel_flat program 1 caller).body ≡ 1 ∷ 1 ∷ 1 ∷ 0 ∷ 2 ∷ 2 ∷ 2 ∷ []
+variables : flat_variables (kernel_flat program 1 caller).body ≡ 0 ∷ 1 ∷ 1 ∷ 1 ∷ 0 ∷ 2 ∷ 2 ∷ 2 ∷ []
 unfolding expanded
 variables = refl
 
--- a call has 1, its argument 1, and the helper's body 1 + 3
-nodes : flat_nodes (kernel_flat program 1 caller).body ≡ 13
+-- the declaration has 1, a call 1, its argument 1, and the helper's body 1 + 3
+nodes : flat_nodes (kernel_flat program 1 caller).body ≡ 14
 unfolding expanded
 nodes = refl
 
@@ -114,7 +115,7 @@ caller_callees (suc (suc i)) site e = cc
 caller_formed : IsFormed program caller
 unfolding measured_by
 caller_formed = record {
-  variables = (omega arith, tt);
+  variables = (omega arith, (omega arith, tt));
   scalars = omega arith;
   declared = omega arith;
   calls = refl;
@@ -132,7 +133,7 @@ all_formed (suc (suc k)) f small e = cc
 few_sites : (k : ℕ) → IsSmall program k → measured own_sites program k ≤ measured own_nodes program k
 unfolding measured_by
 few_sites zero small = let h : measured own_sites program 0 ≡ 1 = refl in let h' : measured own_nodes program 0 ≡ 4 = refl in omega arith
-few_sites (suc zero) small = let h : measured own_sites program 1 ≡ 3 = refl in let h' : measured own_nodes program 1 ≡ 13 = refl in omega arith
+few_sites (suc zero) small = let h : measured own_sites program 1 ≡ 3 = refl in let h' : measured own_nodes program 1 ≡ 14 = refl in omega arith
 few_sites (suc (suc k)) small = let h : measured own_sites program (suc (suc k)) ≡ 0 = refl in omega arith
 
 is_sound : IsSound program
