@@ -4,3 +4,4 @@ pub mod Logged
 pub mod Following
 pub mod Released
 pub mod Endings
+pub mod ManyLaunches
