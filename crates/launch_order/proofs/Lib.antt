@@ -5,3 +5,4 @@ pub mod Following
 pub mod Released
 pub mod Endings
 pub mod ManyLaunches
+pub mod WorkedLaunches

@@ -9,3 +9,4 @@
 
 pub mod laws;
 pub mod list_laws;
+pub mod worked;
