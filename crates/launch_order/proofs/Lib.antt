@@ -4,3 +4,5 @@ pub mod Logged
 pub mod Following
 pub mod Released
 pub mod Endings
+pub mod ManyLaunches
+pub mod WorkedLaunches

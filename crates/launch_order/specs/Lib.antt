@@ -1,3 +1,4 @@
 pub mod Events
 pub mod Cores
 pub mod Lists
+pub mod Worked

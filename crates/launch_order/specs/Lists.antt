@@ -38,3 +38,45 @@ pub record IsReached (l : Launch) (given : ℕ → ℕ → ℕ) (n : ℕ) (core_
   pub standing : (item : ℕ) → core_of (group_of l item) ≡ core → own.standing item ≡ (run l (start given) turns).standing item
   pub soon : (item : ℕ) → item < l.items → core_of (group_of l item) ≡ core → own.standing item ≡ Going
       → (a : Action) × (l.asks item (own.answers item) n ≡ Act a)
+
+-- what some launches leave, each on what the ones before it leave
+abbrev pub LaunchesLeave : List Launch → (ℕ → ℕ → ℕ) → (ℕ → ℕ → ℕ) → Type 0
+LaunchesLeave [] given left = (buffer byte : ℕ) → left buffer byte ≡ given buffer byte
+LaunchesLeave (l ∷ launches) given left = (between : ℕ → ℕ → ℕ) × LaunchLeaves l given between × LaunchesLeave launches between left
+
+-- each launch is orderly on what the ones before it leave
+abbrev pub AreOrderly : List Launch → (ℕ → ℕ → ℕ) → Type 0
+AreOrderly [] given = Unit {0}
+AreOrderly (l ∷ launches) given = IsOrderly l given × ((between : ℕ → ℕ → ℕ) → LaunchLeaves l given between → AreOrderly launches between)
+
+-- some cores ran a launch from the given bytes to the final ones, and each of them was done
+pub record RanToEnd (l : Launch) (given final : ℕ → ℕ → ℕ) : Type 0 where
+  pub cores : ℕ
+  pub events : ℕ → List Event
+  pub ends : ℕ → CoreEnd
+  pub known : CoreEvents l given final cores events ends
+  pub done : (core : ℕ) → core < cores → ends core ≡ AllDone
+
+-- so they ran launch after launch
+abbrev pub RanThrough : List Launch → (ℕ → ℕ → ℕ) → (ℕ → ℕ → ℕ) → Type 0
+RanThrough [] given final = (buffer byte : ℕ) → final buffer byte ≡ given buffer byte
+RanThrough (l ∷ launches) given final = (between : ℕ → ℕ → ℕ) × RanToEnd l given between × RanThrough launches between final
+
+-- They ran through some launches, and in the next one a core came to this end.
+pub record CameTo (before : List Launch) (l : Launch) (given : ℕ → ℕ → ℕ) (end : CoreEnd) : Type 0 where
+  pub between : ℕ → ℕ → ℕ
+  pub through : RanThrough before given between
+  pub final : ℕ → ℕ → ℕ
+  pub cores : ℕ
+  pub events : ℕ → List Event
+  pub ends : ℕ → CoreEnd
+  pub known : CoreEvents l between final cores events ends
+  pub core : ℕ
+  pub exists : core < cores
+  pub came : ends core ≡ end
+
+-- the fault of an item comes on what some launches leave
+pub record FaultComesBehind (before : List Launch) (l : Launch) (given : ℕ → ℕ → ℕ) (item : ℕ) (pos : Pos) : Type 0 where
+  pub between : ℕ → ℕ → ℕ
+  pub leave : LaunchesLeave before given between
+  pub comes : FaultComes l between item pos

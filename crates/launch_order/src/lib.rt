@@ -1,4 +1,12 @@
-//! What the cores of a machine did is an interleaving of the work-items of the launch.
+//! What the cores of a machine did with a launch is an interleaving of its work-items.
 //!
-//! Read first `specs/Events.antt` for what a core does and what that leads to.
+//! Definitions and laws over `item_acts` alone: no machine stands here. Read first `specs/Events.antt` for what a core does
+//! and what its events lead to, then `CoreEvents` in `specs/Cores.antt` for what is known of them, and `laws` and
+//! `list_laws` for what follows. In `proofs/`, `Merged` makes one order of the events of all cores, `Seen` says what a
+//! core knows of it, `Logged` finds races, `Following` and `Released` add each event with its turn, and `Endings` has the
+//! ends.
 #![tactic(auto)]
+
+pub mod laws;
+pub mod list_laws;
+pub mod worked;
