@@ -35,9 +35,10 @@ use Rattle.vx_words.specs.declared.command.Command.TheVariants.{Run, Asm, Dis}
 use Rattle.vx_words.specs.declared.usage.UsageKind.{UsageKind}
 use Rattle.vx_words.specs.Commands as commands
 use Rattle.vx_words.specs.Commands.{IsCommand, IsUsage}
+use Rattle.vx_words.proofs.OneReading.{command_usage}
 use Rattle.vx_run.specs.Answers as answers
 use Rattle.vx_run.specs.Answers.{Outcome, Refuses, Prints, Chosen, bytes_in, most_source, FromArguments, WrongArguments, Runs, FromBuffers, FromKernel, HasForm, FromProgram, HasEntry, FromSource, LongSource, BadSource, HasProgram, FromFile, NoFile, HasFile, FromWords, WrongWords}
-use Rattle.vx_run.specs.Stages.{StopsAt, ComesTo, StageFaults, StageMisses, ReadsFront, StopsReading, IsRunnable, IsRunnableCommand, IsSourceFault, IsNoProgram, IsPlain, StopsFor, StopsForSource}
+use Rattle.vx_run.specs.Stages.{StopsAt, ComesTo, StageFaults, StageMisses, ReadsFront, StopsReading, IsRunnable, IsRunnableCommand, IsSourceFault, IsNoProgram, IsPlain, StopsFor, StopsForSource, ReadsBehind}
 use Rattle.vx_run.proofs.LoadingLaws.{StopsAt-map}
 
 -- what comes of one stage comes of the one before it
@@ -139,6 +140,21 @@ pub usage_stops : (held : Option (List Entry)) (words : List (List ℕ)) (fault 
     ((word : ℕ) (kind : UsageKind) → fault ≡ usage.Usage word kind → IsUsage words word kind) → StopsFor fault s → StopsAt (FromWords held words) s
 usage_stops held words (usage.Usage word kind) s refused is = subst (StopsAt (FromWords held words)) (sym is) (WrongWords word kind (refused word kind refl))
 usage_stops held words usage.Memory s refused is = subst (StopsAt (FromWords held words)) (sym is) tt
+
+-- the words of a command are not refused
+reads_command : (words : List (List ℕ)) (c : Command) → IsCommand words c → (s : Stop) → ReadsBehind words s
+reads_command words c is (stop.Refused (ReadFault faults)) = λ word kind wrong. command_usage words c word kind is wrong
+reads_command words c is (stop.Refused other) = tt
+reads_command words c is stop.Memory = tt
+
+pub command_reads : (words : List (List ℕ)) (c : Command) → IsCommand words c → (r : Result (List ℕ) Stop) → IfErr r (ReadsBehind words)
+command_reads words c is (Ok text) = tt
+command_reads words c is (Err s) = reads_command words c is s
+
+-- words that are refused stop the call for no read
+pub reads_nothing : (words : List (List ℕ)) (fault : UsageFault) (s : Stop) → StopsFor fault s → ReadsBehind words s
+reads_nothing words (usage.Usage word kind) s is = subst (ReadsBehind words) (sym is) tt
+reads_nothing words usage.Memory s is = subst (ReadsBehind words) (sym is) tt
 
 -- another number of arguments is refused
 pub arguments_refused : (c : RunWords) (k : Chosen) (contents : List (List ℕ)) (given wanted : ℕ) → given ≡ length c.arguments → wanted ≡ length k.kernel.params → given ≢ wanted →

@@ -14,11 +14,13 @@ use Rattle.vx_run.specs.Answers.{Chosen, Outcome, Refuses, Prints, FromWords, Fr
 use Rattle.vx_run.specs.Delivery.{IsReportOf, Delivers, WholeText, SinkFailed, NoMemory}
 use Rattle.vx_run.specs.Lines.{line_of, status_of}
 use Rattle.vx_run.specs.Meets as promises
-use Rattle.vx_run.specs.Meets.{Outside, IsTold, EndsUnread, AnswerText, PrintedText, RefusalLine, FaultLine, IsRefused, IsPrefix, VxMeets}
-use Rattle.vx_run.specs.Stages.{IsRefusal, CausesFaults, CausesMisses}
+use Rattle.vx_run.specs.Meets.{Outside, IsTold, EndsFor, EndsUnread, WasCounted, AnswerText, PrintedText, RefusalLine, FaultLine, IsRefused, IsPrefix, VxMeets}
+use Rattle.vx_run.specs.Stages.{IsRefusal, CausesFaults, CausesMisses, ReadsBehind}
 use Rattle.vx_words.specs.declared.command.Command.TheVariants.{Run, Asm, Dis}
 use Rattle.vx_run.proofs.Answerable.{IsAnswerable, MayBe, of_text, of_text_may}
-use Rattle.vx_run.proofs.OneOutcome.{Agree, one_outcome, one_usage}
+use Rattle.vx_run.specs.declared.stages.Stop.TheVariants.{Refused}
+use Rattle.vx_words.specs.declared.usage.UsageKind.{UsageKind}
+use Rattle.vx_run.proofs.OneOutcome.{Agree, one_outcome, one_usage, refused_words}
 
 -- a refusal is a fault of a read, or one that the call comes to
 refusal_cases : (P : Outcome → Type 0) (c : Cause) → IsRefusal P c → ((faults : ℕ) × (c ≡ ReadFault faults) × (faults ≡ 1)) ⊎ P (Refuses c)
@@ -30,7 +32,7 @@ module _ (held : Option (List Entry)) (words : List (List ℕ)) where
   pub data Ended (before now : Outside) (report : Report) : Type 0 where
     AtText : (text : List ℕ) → report.cause ≡ Done → FromWords held words (Prints text) → Appends before.written now.written text → Ended before now report
     AtRefusal : (c : Cause) → report.cause ≡ c → IsRefusal (FromWords held words) c → CausesFaults c before.read_faults now.read_faults →
-        CausesMisses c before.misses now.misses → Ended before now report
+        CausesMisses c before.misses now.misses → ReadsBehind words (Refused c) → Ended before now report
     AtSink : report.cause ≡ WriteFault 1 → Rose before.write_faults now.write_faults → Ended before now report
     AtMemory : report.cause ≡ Memory → Ended before now report
 
@@ -78,7 +80,7 @@ module _ (held : Option (List Entry)) (words : List (List ℕ)) (before now : Ou
   -- a refusal's cause comes only where the call is refused so
   only_refused : (c : Cause) → IsAnswerable c → Ended held words before now report → report.cause ≡ c → IsRefused held words c
   only_refused c may (AtText text e from appends) f = absurd (subst IsAnswerable (sym f ∙ e) may)
-  only_refused c may (AtRefusal d e is faults misses) f =
+  only_refused c may (AtRefusal d e is faults misses behind) f =
       elim (refusal_cases (FromWords held words) c (subst (IsRefusal (FromWords held words)) (sym e ∙ f) is)) [ inl fault ↦ absurd (subst IsAnswerable fault.1 may) | inr h ↦ h ]
   only_refused c may (AtSink e rose) f = absurd (subst IsAnswerable (sym f ∙ e) may)
   only_refused c may (AtMemory e) f = absurd (subst IsAnswerable (sym f ∙ e) may)
@@ -86,28 +88,39 @@ module _ (held : Option (List Entry)) (words : List (List ℕ)) (before now : Ou
   -- a call that is refused so ends so, or one of its reads, the sink or memory failed
   refused_ends : (c : Cause) → ((o : Outcome) → FromWords held words o → Agree (Refuses c) o) → Ended held words before now report → EndsUnread report c
   refused_ends c agree (AtText text e from appends) = absurd (agree (Prints text) from)
-  refused_ends c agree (AtRefusal d e is faults misses) =
+  refused_ends c agree (AtRefusal d e is faults misses behind) =
       elim (refusal_cases (FromWords held words) d is) [ inl fault ↦ inr (fault.0, e ∙ fault.1) | inr h ↦ inl (inl (e ∙ sym (agree (Refuses d) h))) ]
   refused_ends c agree (AtSink e rose) = inl (inr (inl (1, e)))
   refused_ends c agree (AtMemory e) = inl (inr (inr e))
+
+  -- a call whose words are refused ends so, or the sink or memory failed
+  usage_ends : (word : ℕ) (kind : UsageKind) → IsRefused held words (Usage word kind) → Ended held words before now report → EndsFor report (Usage word kind)
+  usage_ends word kind h (AtText text e from appends) = absurd (one_usage held words word kind (Prints text) h from)
+  usage_ends word kind h (AtRefusal d e is faults misses behind) =
+      elim (refusal_cases (FromWords held words) d is) [
+        | inl fault ↦ absurd (subst (λ c. ReadsBehind words (Refused c)) fault.1 behind word kind (refused_words held words word kind h))
+        | inr h' ↦ inl (e ∙ sym (one_usage held words word kind (Refuses d) h h'))
+      ]
+  usage_ends word kind h (AtSink e rose) = inr (inl (1, e))
+  usage_ends word kind h (AtMemory e) = inr (inr e)
 
   -- no other cause than these, a fault, want of memory and the end
   never : (c : Cause) → (IsAnswerable c → ⊥) → (IsRefusal (FromWords held words) c → IsAnswerable c) → (Done ≡ c → ⊥) → (WriteFault 1 ≡ c → ⊥) → (Memory ≡ c → ⊥) →
       Ended held words before now report → report.cause ≡ c → ⊥
   never c not may done sink memory (AtText text e from appends) f = done (sym e ∙ f)
-  never c not may done sink memory (AtRefusal d e is faults misses) f = not (may (subst (IsRefusal (FromWords held words)) (sym e ∙ f) is))
+  never c not may done sink memory (AtRefusal d e is faults misses behind) f = not (may (subst (IsRefusal (FromWords held words)) (sym e ∙ f) is))
   never c not may done sink memory (AtSink e rose) f = sink (sym e ∙ f)
   never c not may done sink memory (AtMemory e) f = memory (sym e ∙ f)
 
   only_missing : (name : List ℕ) → Ended held words before now report → report.cause ≡ Missing name → Rose before.misses now.misses
   only_missing name (AtText text e from appends) f = absurd (subst IsAnswerable (sym f ∙ e) tt)
-  only_missing name (AtRefusal d e is faults misses) f = subst (λ c. CausesMisses c before.misses now.misses) (sym e ∙ f) misses
+  only_missing name (AtRefusal d e is faults misses behind) f = subst (λ c. CausesMisses c before.misses now.misses) (sym e ∙ f) misses
   only_missing name (AtSink e rose) f = absurd (subst IsAnswerable (sym f ∙ e) tt)
   only_missing name (AtMemory e) f = absurd (subst IsAnswerable (sym f ∙ e) tt)
 
   only_read_fault : (faults : ℕ) → Ended held words before now report → report.cause ≡ ReadFault faults → (faults ≡ 1) × Rose before.read_faults now.read_faults
   only_read_fault faults (AtText text e from appends) f = let g : Done ≡ ReadFault faults = sym e ∙ f in cc
-  only_read_fault faults (AtRefusal d e is causes misses) f = (
+  only_read_fault faults (AtRefusal d e is causes misses behind) f = (
     subst (IsRefusal (FromWords held words)) (sym e ∙ f) is,
     subst (λ c. CausesFaults c before.read_faults now.read_faults) (sym e ∙ f) causes,
   )
@@ -116,20 +129,20 @@ module _ (held : Option (List Entry)) (words : List (List ℕ)) (before now : Ou
 
   only_write_fault : (faults : ℕ) → Ended held words before now report → report.cause ≡ WriteFault faults → (faults ≡ 1) × Rose before.write_faults now.write_faults
   only_write_fault faults (AtText text e from appends) f = let g : Done ≡ WriteFault faults = sym e ∙ f in cc
-  only_write_fault faults (AtRefusal d e is causes misses) f = absurd (may_be held words (Refuses (WriteFault faults)) (subst (IsRefusal (FromWords held words)) (sym e ∙ f) is))
+  only_write_fault faults (AtRefusal d e is causes misses behind) f = absurd (may_be held words (Refuses (WriteFault faults)) (subst (IsRefusal (FromWords held words)) (sym e ∙ f) is))
   only_write_fault faults (AtSink e rose) f = let g : WriteFault 1 ≡ WriteFault faults = sym e ∙ f in (cc, rose)
   only_write_fault faults (AtMemory e) f = let g : Memory ≡ WriteFault faults = sym e ∙ f in cc
 
   only_done : Ended held words before now report → report.cause ≡ Done → (text : List ℕ) × FromWords held words (Prints text) × Appends before.written now.written text
   only_done (AtText text e from appends) f = (text, from, appends)
-  only_done (AtRefusal d e is causes misses) f = absurd (may_be held words (Refuses Done) (subst (IsRefusal (FromWords held words)) (sym e ∙ f) is))
+  only_done (AtRefusal d e is causes misses behind) f = absurd (may_be held words (Refuses Done) (subst (IsRefusal (FromWords held words)) (sym e ∙ f) is))
   only_done (AtSink e rose) f = let g : WriteFault 1 ≡ Done = sym e ∙ f in absurd (cc)
   only_done (AtMemory e) f = let g : Memory ≡ Done = sym e ∙ f in absurd (cc)
 
   ends_well : Ended held words before now report → ((c : Cause) → IsRefused held words c → ⊥) → (Rose before.read_faults now.read_faults → ⊥) →
       (Rose before.write_faults now.write_faults → ⊥) → (report.cause ≡ Done) ⊎ (report.cause ≡ Memory)
   ends_well (AtText text e from appends) none read write = inl e
-  ends_well (AtRefusal d e is causes misses) none read write =
+  ends_well (AtRefusal d e is causes misses behind) none read write =
       elim (refusal_cases (FromWords held words) d is) [
         | inl fault ↦ absurd (read (subst (λ c. CausesFaults c before.read_faults now.read_faults) fault.1 causes))
         | inr h ↦ absurd (none d h)
@@ -138,11 +151,11 @@ module _ (held : Option (List Entry)) (words : List (List ℕ)) (before now : Ou
   ends_well (AtMemory e) none read write = inr e
 
   -- what is known of a call's end is what it meets
-  pub meets : report.status ≡ status_of report.cause → Ended held words before now report → IsPrefix held words before.written now.written report →
+  pub meets : report.status ≡ status_of report.cause → Ended held words before now report → IsPrefix held words before now report →
       VxMeets held words before now report
   meets status ended prefix = record {
     status = status;
-    usage = λ word kind. (only_refused (Usage word kind) tt ended, λ h. refused_ends (Usage word kind) (λ o h'. one_usage held words word kind o h h') ended);
+    usage = λ word kind. (only_refused (Usage word kind) tt ended, λ h. usage_ends word kind h ended);
     source = λ pos kind. (only_refused (Source pos kind) tt ended, λ told h. refused_ends (Source pos kind) (told_agree held words told (Source pos kind) h) ended);
     launch = λ index kind. (only_refused (Launch index kind) tt ended, λ told h. refused_ends (Launch index kind) (told_agree held words told (Launch index kind) h) ended);
     buffer = λ index kind. (only_refused (Buffer index kind) tt ended, λ told h. refused_ends (Buffer index kind) (told_agree held words told (Buffer index kind) h) ended);
@@ -162,6 +175,12 @@ status_kept : (cause : Cause) (report : Report) → IsReportOf cause report → 
 status_kept cause report h = h.status ∙ ap status_of (sym h.cause_is)
 
 module _ (held : Option (List Entry)) (words : List (List ℕ)) (before now : Outside) (report : Report) where
+  -- what a refusal says of the counts is that its cause was counted
+  was_counted : (c : Cause) → CausesFaults c before.read_faults now.read_faults → CausesMisses c before.misses now.misses → WasCounted c before now
+  was_counted (ReadFault n) faults misses = faults
+  was_counted (Missing name) faults misses = misses
+  was_counted c faults misses = tt
+
   -- a text that is delivered
   pub meets_printed : (text : List ℕ) → FromWords held words (Prints text) →
       Delivers Done text before.written now.written before.write_faults now.write_faults report → VxMeets held words before now report
@@ -176,24 +195,26 @@ module _ (held : Option (List Entry)) (words : List (List ℕ)) (before now : Ou
       (promises.FrontOfText Done text 1 (PrintedText text from) (inr r.cause_is) some)
 
   -- the line of a refusal
-  line_text : (c : Cause) → IsRefusal (FromWords held words) c → AnswerText held words c (line_of c)
-  line_text c is = elim (refusal_cases (FromWords held words) c is) [
-    | inl fault ↦ subst (λ d. AnswerText held words d (line_of d)) (sym (fault.1 ∙ ap ReadFault fault.2)) FaultLine
-    | inr h ↦ RefusalLine c h
+  line_text : (c : Cause) → IsRefusal (FromWords held words) c → WasCounted c before now → AnswerText held words before now c (line_of c)
+  line_text c is counted = elim (refusal_cases (FromWords held words) c is) [
+    | inl fault ↦
+        let one : c ≡ ReadFault 1 = fault.1 ∙ ap ReadFault fault.2 in
+        subst (λ d. AnswerText held words before now d (line_of d)) (sym one) (FaultLine (subst (λ d. WasCounted d before now) one counted))
+    | inr h ↦ RefusalLine c h counted
   ]
 
   -- a refusal whose line is delivered
   pub meets_refused : (c : Cause) → IsRefusal (FromWords held words) c → CausesFaults c before.read_faults now.read_faults → CausesMisses c before.misses now.misses →
-      Delivers c (line_of c) before.written now.written before.write_faults now.write_faults report → VxMeets held words before now report
-  meets_refused c is faults misses (WholeText r appends) =
-      meets held words before now report (status_kept c report r) (AtRefusal c r.cause_is is faults misses)
-      (promises.WholeText c (line_of c) (line_text c is) r.cause_is appends)
-  meets_refused c is faults misses (SinkFailed r rose some) =
+      ReadsBehind words (Refused c) → Delivers c (line_of c) before.written now.written before.write_faults now.write_faults report → VxMeets held words before now report
+  meets_refused c is faults misses behind (WholeText r appends) =
+      meets held words before now report (status_kept c report r) (AtRefusal c r.cause_is is faults misses behind)
+      (promises.WholeText c (line_of c) (line_text c is (was_counted c faults misses)) r.cause_is appends)
+  meets_refused c is faults misses behind (SinkFailed r rose some) =
       meets held words before now report (status_kept (WriteFault 1) report r) (AtSink r.cause_is rose)
-      (promises.FrontOfText c (line_of c) 1 (line_text c is) (inl r.cause_is) some)
-  meets_refused c is faults misses (NoMemory r some) =
+      (promises.FrontOfText c (line_of c) 1 (line_text c is (was_counted c faults misses)) (inl r.cause_is) some)
+  meets_refused c is faults misses behind (NoMemory r some) =
       meets held words before now report (status_kept Memory report r) (AtMemory r.cause_is)
-      (promises.FrontOfText c (line_of c) 1 (line_text c is) (inr r.cause_is) some)
+      (promises.FrontOfText c (line_of c) 1 (line_text c is (was_counted c faults misses)) (inr r.cause_is) some)
 
   -- want of memory before anything is written
   pub meets_memory : IsReportOf Memory report → now.written ≡ before.written → VxMeets held words before now report

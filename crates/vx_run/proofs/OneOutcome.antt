@@ -195,6 +195,11 @@ module _ (held : Option (List Entry)) (word : ℕ) (kind : UsageKind) where
   no_usage_command (Asm file) h = of_text held file most_assembly _ _ h
   no_usage_command (Dis file) h = of_text held file most_word_text _ _ h
 
+-- a call that is refused for its words has such words
+pub refused_words : (held : Option (List Entry)) (words : List (List ℕ)) (word : ℕ) (kind : UsageKind) → FromWords held words (Refuses (cause.Usage word kind)) → IsUsage words word kind
+refused_words held words word kind (WrongWords w k is) = is
+refused_words held words word kind (RightWords c q is h) = absurd (no_usage_command held word kind c h)
+
 -- refused words come to nothing else, whatever the files tell
 pub one_usage : (held : Option (List Entry)) (words : List (List ℕ)) (word : ℕ) (kind : UsageKind) (o : Outcome) → FromWords held words (Refuses (cause.Usage word kind)) → FromWords held words o →
     Agree (Refuses (cause.Usage word kind)) o

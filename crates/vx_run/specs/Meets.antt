@@ -34,20 +34,27 @@ EndsFor report cause = (report.cause ≡ cause) ⊎ (((faults : ℕ) × (report.
 abbrev pub EndsUnread : Report → Cause → Type 0
 EndsUnread report cause = EndsFor report cause ⊎ ((faults : ℕ) × (report.cause ≡ ReadFault faults))
 
--- the text of an answer that the call may come to: what it prints, or the line of its refusal
-pub data AnswerText (held : Option (List Entry)) (words : List (List ℕ)) : Cause → List ℕ → Type 0 where
-  PrintedText : (text : List ℕ) → FromWords held words (Prints text) → AnswerText held words Done text
-  RefusalLine : (cause : Cause) → FromWords held words (Refuses cause) → AnswerText held words cause (line_of cause)
-  FaultLine : AnswerText held words (ReadFault 1) (line_of (ReadFault 1))
+-- a read that failed, and a name that no file has, were counted in this call
+abbrev pub WasCounted : Cause → Outside → Outside → Type 0
+WasCounted (ReadFault faults) before now = Rose before.read_faults now.read_faults
+WasCounted (Missing name) before now = Rose before.misses now.misses
+WasCounted c before now = Unit {0}
+
+-- The text of an answer that the call may come to: what it prints, or the line of its refusal. The line of a failed read
+-- and that of a missing name are answers only where the outside counted one.
+pub data AnswerText (held : Option (List Entry)) (words : List (List ℕ)) (before now : Outside) : Cause → List ℕ → Type 0 where
+  PrintedText : (text : List ℕ) → FromWords held words (Prints text) → AnswerText held words before now Done text
+  RefusalLine : (cause : Cause) → FromWords held words (Refuses cause) → WasCounted cause before now → AnswerText held words before now cause (line_of cause)
+  FaultLine : WasCounted (ReadFault 1) before now → AnswerText held words before now (ReadFault 1) (line_of (ReadFault 1))
 
 -- What was written is a text of an answer that the call may come to, whole and for the cause of the report; or its front,
 -- where the sink failed or memory ran out; or nothing, where memory ran out before.
-pub data IsPrefix (held : Option (List Entry)) (words : List (List ℕ)) (before now : Option (List ℕ)) (report : Report) : Type 0 where
-  WholeText : (cause : Cause) (text : List ℕ) → AnswerText held words cause text → report.cause ≡ cause → Appends before now text →
-      IsPrefix held words before now report
-  FrontOfText : (cause : Cause) (text : List ℕ) (faults : ℕ) → AnswerText held words cause text → (report.cause ≡ WriteFault faults) ⊎ (report.cause ≡ Memory) →
-      AppendsSome before now text → IsPrefix held words before now report
-  NoText : report.cause ≡ Memory → Appends before now [] → IsPrefix held words before now report
+pub data IsPrefix (held : Option (List Entry)) (words : List (List ℕ)) (before now : Outside) (report : Report) : Type 0 where
+  WholeText : (cause : Cause) (text : List ℕ) → AnswerText held words before now cause text → report.cause ≡ cause →
+      Appends before.written now.written text → IsPrefix held words before now report
+  FrontOfText : (cause : Cause) (text : List ℕ) (faults : ℕ) → AnswerText held words before now cause text →
+      (report.cause ≡ WriteFault faults) ⊎ (report.cause ≡ Memory) → AppendsSome before.written now.written text → IsPrefix held words before now report
+  NoText : report.cause ≡ Memory → Appends before.written now.written [] → IsPrefix held words before now report
 
 -- the call is refused for this cause
 abbrev pub IsRefused : Option (List Entry) → List (List ℕ) → Cause → Type 0
@@ -58,9 +65,10 @@ IsRefused held words cause = FromWords held words (Refuses cause)
 pub record VxMeets (held : Option (List Entry)) (words : List (List ℕ)) (before now : Outside) (report : Report) : Type 0 where
   -- the status is that of the cause
   pub status : report.status ≡ status_of report.cause
-  -- each refusal comes exactly where its row of the table of answers says
+  -- each refusal comes exactly where its row of the table of answers says; words that are refused are answered before any
+  -- file is read
   pub usage : (word : ℕ) (kind : UsageKind) → (report.cause ≡ Usage word kind → IsRefused held words (Usage word kind))
-      × (IsRefused held words (Usage word kind) → EndsUnread report (Usage word kind))
+      × (IsRefused held words (Usage word kind) → EndsFor report (Usage word kind))
   pub source : (pos : Pos) (kind : SourceKind) → (report.cause ≡ Source pos kind → IsRefused held words (Source pos kind))
       × (IsTold held → IsRefused held words (Source pos kind) → EndsUnread report (Source pos kind))
   pub launch : (index : ℕ) (kind : LaunchKind) → (report.cause ≡ Launch index kind → IsRefused held words (Launch index kind))
@@ -77,7 +85,7 @@ pub record VxMeets (held : Option (List Entry)) (words : List (List ℕ)) (befor
   pub read_fault : (faults : ℕ) → report.cause ≡ ReadFault faults → (faults ≡ 1) × Rose before.read_faults now.read_faults
   pub write_fault : (faults : ℕ) → report.cause ≡ WriteFault faults → (faults ≡ 1) × Rose before.write_faults now.write_faults
   -- what is written is always the front of a text, and mostly all of it
-  pub prefix : IsPrefix held words before.written now.written report
+  pub prefix : IsPrefix held words before now report
   -- with status 0 the printed buffers are those that the launch leaves, written whole
   pub headline : report.cause ≡ Done → (text : List ℕ) × FromWords held words (Prints text) × Appends before.written now.written text
   -- where no refusal's row holds and no fault was counted, the buffers are printed, unless memory ran out

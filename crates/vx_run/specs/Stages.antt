@@ -7,6 +7,8 @@ use Rattle.vx_run.specs.declared.stages.Stop.TheVariants.{Refused, Memory}
 use Rattle.vx_world.specs.declared.reading.Entry.{Entry}
 use Rattle.vx_words.specs.declared.run_words.RunWords.{RunWords}
 use Rattle.vx_words.specs.declared.usage.UsageFault.{UsageFault}
+use Rattle.vx_words.specs.declared.usage.UsageKind.{UsageKind}
+use Rattle.vx_words.specs.Commands.{IsUsage}
 use Rattle.vx_words.specs.declared.usage.UsageFault.TheVariants.{Usage, Memory as NoMemory}
 use Rattle.vx_cc.specs.Faults.{first_place, fault_at}
 use Rattle.vx_cc.specs.Fronts.{FrontOf}
@@ -130,6 +132,12 @@ StopsForAsm fault stop = stop ≡ Refused (asm_cause fault)
 abbrev pub StopsForHex : HexFault → Stop → Type 0
 StopsForHex hex.Memory stop = stop ≡ Memory
 StopsForHex fault stop = stop ≡ Refused (hex_cause fault)
+
+-- no read fails where the words are refused
+abbrev pub ReadsBehind : List (List ℕ) → Stop → Type 0
+ReadsBehind words (Refused (cause.ReadFault faults)) = (word : ℕ) (kind : UsageKind) → IsUsage words word kind → ⊥
+ReadsBehind words (Refused c) = Unit {0}
+ReadsBehind words Memory = Unit {0}
 
 -- what a command is known to be, once its words are read
 abbrev pub IsRunnableCommand : Command → Type 0

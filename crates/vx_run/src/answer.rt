@@ -6,7 +6,7 @@ ghost use Rattle.first_kernels.specs.FirstForms.{form_from, IsFit};
 ghost use Rattle.first_kernels.specs.FirstTree.{form_of};
 ghost use Rattle.vx_cc.specs.Fronts.{FrontOf};
 ghost use Rattle.vx_run.specs.Answers.{Chosen, FromArguments, FromCommand, FromFile, FromKernel, FromProgram, FromWords, most_source};
-ghost use Rattle.vx_run.specs.Stages.{ComesTo, IsNoProgram, IsPlain, IsRunnable, IsRunnableCommand, StageFaults, StageMisses, StopsFor, StopsForSource};
+ghost use Rattle.vx_run.specs.Stages.{ComesTo, IsNoProgram, IsPlain, IsRunnable, IsRunnableCommand, ReadsBehind, StageFaults, StageMisses, StopsFor, StopsForSource};
 
 use crate::launch::print_launch;
 use crate::loading::load_buffers;
@@ -185,6 +185,7 @@ fn answer_command<F: Files>(alloc: Global, files: &mut F, command: &Command) -> 
 /// What a call with these words over these files comes to.
 pub fn answer<F: Files>(alloc: Global, files: &mut F, words: &[String]) -> Result<Text, Stop>
     ensures comes { ComesTo (FromWords (F.held files.old) (map string_bytes words.now)) result }
+    ensures words { IfErr result (ReadsBehind (map string_bytes words.now)) }
     ensures faults { StageFaults result (F.faults files.old) (F.faults files.new) }
     ensures misses { StageMisses result (F.misses files.old) (F.misses files.new) }
 {

@@ -1,5 +1,5 @@
 use Rattle.std.proofs.Common.{map, string_bytes, ◌∙◌, ap, Err}
-use Rattle.vx_run.proofs.AnswerLaws.{ComesTo-map, runnable_command, usage_stops}
+use Rattle.vx_run.proofs.AnswerLaws.{ComesTo-map, command_reads, reads_nothing, runnable_command, usage_stops}
 use Rattle.vx_run.specs.Answers.{FromCommand, FromWords, RightWords}
 use Rattle.vx_run.proofs.answer.answer.Goals as goal
 
@@ -16,3 +16,9 @@ pub returns-in-Err-clause-comes : goal.returns-in-Err-clause-comes
 returns-in-Err-clause-comes g c =
     usage_stops (g.F.Files.held c.args.files.now) (map string_bytes c.args.words.now) c.in-Err.fault c.usage_stop.result
     (λ word kind e. c.read_words.ensures.fault word kind (c.in-Err.is ∙ ap Err e)) c.usage_stop.ensures
+
+pub returns-in-Ok-clause-words : goal.returns-in-Ok-clause-words
+returns-in-Ok-clause-words g c = command_reads (map string_bytes c.args.words.now) c.in-Ok.command c.in-Ok.ensures.spelled c.answer_command.result
+
+pub returns-in-Err-clause-words : goal.returns-in-Err-clause-words
+returns-in-Err-clause-words g c = reads_nothing (map string_bytes c.args.words.now) c.in-Err.fault c.usage_stop.result c.usage_stop.ensures

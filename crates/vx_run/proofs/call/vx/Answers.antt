@@ -1,7 +1,7 @@
 use Rattle.std.proofs.Common.{◌≡◌, map, string_bytes, subst}
 use Rattle.vx_run.specs.Answers.{FromWords}
 use Rattle.vx_run.specs.Delivery.{Delivers}
-use Rattle.vx_run.specs.Stages.{StopsAt, StopFaults, StopMisses}
+use Rattle.vx_run.specs.Stages.{ReadsBehind, StopsAt, StopFaults, StopMisses}
 use Rattle.vx_run.proofs.MeetsLaws.{meets_printed, meets_refused, meets_memory}
 use Rattle.vx_run.proofs.call.vx.Goals as goal
 
@@ -17,6 +17,7 @@ returns-in-Ok-cause_line g c =
     let comes = subst (StopsAt (FromWords (held c.args.files.now) (map string_bytes c.args.words.now))) c.in-Err-Refused.field-0-is c.in-Err-Refused.ensures.comes in
     let fault = subst (λ s. StopFaults s (faults c.args.files.now) (faults c.answer.new.files)) c.in-Err-Refused.field-0-is c.in-Err-Refused.ensures.faults in
     let miss = subst (λ s. StopMisses s (misses c.args.files.now) (misses c.answer.new.files)) c.in-Err-Refused.field-0-is c.in-Err-Refused.ensures.misses in
-    meets_refused _ _ _ _ _ cause comes fault miss
+    let behind = subst (ReadsBehind (map string_bytes c.args.words.now)) c.in-Err-Refused.field-0-is c.in-Err-Refused.ensures.words in
+    meets_refused _ _ _ _ _ cause comes fault miss behind
     (subst (λ t. Delivers cause t (g.O.Out.written c.args.out.now) (g.O.Out.written c.deliver_answer-in-Ok-cause_line.new.out) (g.O.Out.faults c.args.out.now)
     (g.O.Out.faults c.deliver_answer-in-Ok-cause_line.new.out) c.deliver_answer-in-Ok-cause_line.result) c.in-Ok-cause_line.ensures c.deliver_answer-in-Ok-cause_line.ensures)
