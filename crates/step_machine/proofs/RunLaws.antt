@@ -1,13 +1,11 @@
 -- Runs of the code are runs of the machine.
-use Rattle.std.proofs.Common.{◌≡◌, ℕ, suc, ◌+◌, ◌-◌, ◌<◌, ◌≤◌, List, [], ◌∷◌, length, take, drop, get_or, Result, Ok, Err, IfOk, refl, ap, sym, subst, ◌∙◌, arith}
+use Rattle.std.proofs.Common.{◌≡◌, ℕ, suc, ◌+◌, ◌-◌, ◌<◌, ◌≤◌, List, [], ◌∷◌, length, take, drop, get_or, Result, Ok, Err, IfOk, ap, sym, subst, ◌∙◌, arith}
 use Rattle.std.proofs.lemmas.List.{take_all}
 use Rattle.item_acts.specs.declared.acts.Action.{Action}
 use Rattle.item_acts.specs.declared.acts.Asked.{Asked}
-use Rattle.item_acts.specs.declared.acts.Asked.TheVariants.{Act}
-use Rattle.item_acts.specs.Machine.{Step, Go, Ask, Stop, asked, asked_at_once, asked_behind}
+use Rattle.item_acts.specs.Machine.{Step, Go, Ask, asked, asked_at_once, asked_behind}
 use Rattle.step_machine.specs.declared.runs.Progress.{Progress}
-use Rattle.step_machine.specs.declared.runs.Progress.TheVariants.{GoesOn, Reached}
-use Rattle.step_machine.specs.Steps.{Advances, GoesBelow, went, without_answers}
+use Rattle.step_machine.specs.Steps.{Advances, GoesBelow, went}
 use Rattle.step_machine.specs.Turns.{BehindBelow, EachBelow}
 
 -- ---- one step

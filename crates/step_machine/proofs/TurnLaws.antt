@@ -1,5 +1,5 @@
 -- Numbers of turns below a number.
-use Rattle.std.proofs.Common.{◌≡◌, ℕ, suc, ◌+◌, ◌<◌, ◌≤◌, List, [], ◌∷◌, refl, sym, subst, arith}
+use Rattle.std.proofs.Common.{◌≡◌, ℕ, suc, ◌<◌, ◌≤◌, List, [], ◌∷◌, refl, sym, subst, arith}
 use Rattle.step_machine.specs.Stacks.{under}
 use Rattle.step_machine.specs.Turns.{EachBelow, risen}
 

@@ -1,4 +1,4 @@
-use Rattle.std.proofs.Common.{◌≡◌, ℕ, suc, ◌≤◌, rules, ap, subst, ◌∙◌}
+use Rattle.std.proofs.Common.{suc, ◌≤◌, rules, ap, subst, ◌∙◌}
 use Rattle.item_acts.specs.Machine.{asked}
 use Rattle.step_machine.specs.Steps.{GoesBelow, went}
 use Rattle.step_machine.proofs.RunLaws.{going_done, going_end, going_on}
