@@ -6,3 +6,4 @@ pub mod Released
 pub mod Endings
 pub mod ManyLaunches
 pub mod WorkedLaunches
+pub mod MoveBytes

@@ -1,4 +1,5 @@
 pub mod Events
 pub mod Cores
 pub mod Lists
+pub mod Moves
 pub mod Worked
