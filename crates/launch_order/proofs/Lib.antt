@@ -7,3 +7,4 @@ pub mod Endings
 pub mod ManyLaunches
 pub mod WorkedLaunches
 pub mod MoveBytes
+pub mod MoveEvents

@@ -45,7 +45,7 @@ size_pos Two = omega arith
 size_pos Four = omega arith
 
 -- a field has its first cell
-spans_self : (cell : Cell) (size : Size) → spans cell (bytes_of size) cell ≡ true
+pub spans_self : (cell : Cell) (size : Size) → spans cell (bytes_of size) cell ≡ true
 spans_self (Shared a) size = let pos = size_pos size in and_from _ _ (le-leb a a (omega arith)) (lt-ltb a (a + bytes_of size) (omega (arith, pos)))
 spans_self (Scratch a) size = let pos = size_pos size in and_from _ _ (le-leb a a (omega arith)) (lt-ltb a (a + bytes_of size) (omega (arith, pos)))
 

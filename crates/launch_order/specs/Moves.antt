@@ -98,6 +98,10 @@ abbrev pub events_of : (ℕ → Cell → Held) → List Moved → List Event
 events_of holds [] = []
 events_of holds (m ∷ moves) = events_in holds m.place m.what ++ events_of holds moves
 
+-- the events of each core
+abbrev pub core_events : (ℕ → Cell → Held) → (ℕ → List Moved) → ℕ → List Event
+core_events holds moves core = events_of holds (moves core)
+
 -- a place of a buffer
 abbrev pub IsGlobal : Place → Type 0
 IsGlobal (Global buffer byte) = Unit {0}
