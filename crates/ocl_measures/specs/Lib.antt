@@ -1,3 +1,4 @@
 pub mod Recursion
+pub mod Searches
 pub mod Sizes
 pub mod Totals

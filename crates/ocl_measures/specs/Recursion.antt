@@ -1,6 +1,6 @@
 -- Which functions reach a call of themselves.
-use Rattle.std.specs.Prelude.{ℕ, zero, suc, ◌==◌, Bool, true, false, ◌||◌, List, [], length, map, slice_get, Option, None, Some}
-use Rattle.std.specs.List.{list_any}
+use Rattle.std.specs.Prelude.{◌≡◌, ℕ, zero, suc, ◌+◌, ◌<◌, ◌==◌, nat_lt, Bool, true, false, ◌||◌, List, [], length, slice_get, Option, None, Some}
+use Rattle.std.specs.List.{list_all, list_any}
 use Rattle.std.specs.Option.{unwrap_or}
 use Rattle.ocl_program.specs.declared.functions.CallSite.{CallSite}
 use Rattle.ocl_program.specs.Nodes.{FunctionNode}
@@ -22,10 +22,25 @@ leads program to (suc n) from = some_leads (leads program to n) to (calls_at (sl
 abbrev pub is_recursive : List FunctionNode → ℕ → Bool
 is_recursive program k = leads program k (length program) k
 
+-- the first function that can reach a call of itself, or that none can
+abbrev pub IsFirstRecursive : List FunctionNode → Option ℕ → Type 0
+IsFirstRecursive program None = (k : ℕ) → k < length program → is_recursive program k ≡ false
+IsFirstRecursive program (Some n) = (n < length program) × (is_recursive program n ≡ true) × ((k : ℕ) → k < n → is_recursive program k ≡ false)
+
 -- whether a table has a mark for function k
 abbrev pub marked : List Bool → ℕ → Bool
 marked marks k = unwrap_or (slice_get marks k) false
 
--- the functions that lead to function `to` by a call whose callee is it or is marked
-abbrev pub marked_next : List FunctionNode → ℕ → List Bool → List Bool
-marked_next program to marks = map (λ (f : FunctionNode). some_leads (marked marks) to f.calls) program
+-- ---- functions in parts, by which most are seen not to be recursive
+
+-- the part of function k, 0 where the table has none
+abbrev pub part_at : List ℕ → ℕ → ℕ
+part_at parts k = unwrap_or (slice_get parts k) 0
+
+-- whether some calls are all of functions of parts below n
+abbrev pub all_below : List ℕ → ℕ → List CallSite → Bool
+all_below parts n calls = list_all (λ (c : CallSite). nat_lt (part_at parts c.callee) n) calls
+
+-- No call leads to a greater part.
+abbrev pub PartsFall : List FunctionNode → List ℕ → Type 0
+PartsFall program parts = (k : ℕ) → all_below parts (part_at parts k + 1) (calls_at (slice_get program k)) ≡ true

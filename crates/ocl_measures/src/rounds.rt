@@ -1,10 +1,15 @@
 //! How large the functions of a program are with their calls expanded.
-ghost use Rattle.std.specs.Prelude.{◌≡◌, ◌-◌, ◌≤◌, ◌^◌, IfOk, ℕ, map, length};
+ghost use Rattle.std.specs.Prelude.{◌≡◌, ◌-◌, ◌≤◌, ◌^◌, IfOk, IfSome, ℕ, map, length};
+ghost use Rattle.std.specs.List.{list_all};
+ghost use Rattle.ocl_program.specs.declared.functions.CallSite.{CallSite};
 ghost use Rattle.ocl_program.specs.Shapes.{function_node};
+ghost use Rattle.ocl_measures.specs.Recursion.{marked};
 ghost use Rattle.ocl_measures.specs.Totals.{AreTotals, added_up, calls_of, control_of, depth_of, nested, nodes_of, own_totals as own_totals_of, sites_of, variables_of};
 
+use crate::order::call_order;
+use crate::recursion::is_marked;
 use crate::sizes::{Inner, NONE, Totals, stmts_size};
-use ocl_program::TypedFunction;
+use ocl_program::{CallSite, TypedFunction};
 use std::alloc::{AllocError, Global};
 
 /// A function of which nothing is known.
@@ -90,10 +95,10 @@ fn next_totals(
         .collect(alloc)
 }
 
-/// The totals of the functions of a program. Each round goes one call deeper, so that there are no more rounds than calls
-/// inside one another.
+/// The totals of the functions of a program, by rounds. Each round goes one call deeper, so that there are no more rounds than
+/// calls inside one another.
 #[tactic(auto, using(crate::proofs::Deeper::none_known, crate::proofs::Deeper::totals_of_functions, crate::proofs::Deeper::one_round, crate::proofs::Deeper::steady_at_once))]
-pub fn all_totals(alloc: Global, functions: &[TypedFunction]) -> Result<Vec<Totals>, AllocError>
+fn totals_by_rounds(alloc: Global, functions: &[TypedFunction]) -> Result<Vec<Totals>, AllocError>
     ensures { IfOk result (λ totals. AreTotals (map function_node functions.now) (length functions.now) totals.items) }
 {
     let mut totals = Vec::new(alloc);
@@ -105,4 +110,55 @@ pub fn all_totals(alloc: Global, functions: &[TypedFunction]) -> Result<Vec<Tota
         totals = next;
     }
     Ok(totals)
+}
+
+/// Whether the callees of a function are all marked.
+fn are_marked(calls: &[CallSite], marks: &[bool]) -> bool
+    ensures { result ≡ list_all (λ (c : CallSite). marked marks.now c.callee) calls.now }
+{
+    calls.iter().all(|call| is_marked(marks, call.callee))
+}
+
+/// The totals of the functions of a program in an order, each behind its callees. None where the order leaves out a
+/// function, has more places than there are functions, or has one before one that it calls.
+fn totals_in_order(
+    alloc: Global,
+    functions: &[TypedFunction],
+    order: &[u32],
+) -> Result<Option<Vec<Totals>>, AllocError>
+    ensures { IfOk result (λ found. IfSome found (λ totals. AreTotals (map function_node functions.now) (length functions.now) totals.items)) }
+{
+    if functions.len() < order.len() {
+        return Ok(None);
+    }
+    let mut totals = vec![in alloc; NO_TOTALS; functions.len()]?;
+    let mut known = vec![in alloc; false; functions.len()]?;
+    for number in order {
+        let place = *number as usize;
+        let Some(function) = functions.get(place) else {
+            return Ok(None);
+        };
+        if !are_marked(function.calls.as_slice(), known.as_slice()) {
+            return Ok(None);
+        }
+        totals[place] = own_totals(function, totals.as_slice());
+        known[place] = true;
+    }
+    if known.iter().all(|known| *known) {
+        Ok(Some(totals))
+    } else {
+        Ok(None)
+    }
+}
+
+/// The totals of the functions of a program, each function measured once, behind its callees. Where functions call one
+/// another in a circle, and so have no such order, they are measured by rounds.
+pub fn all_totals(alloc: Global, functions: &[TypedFunction]) -> Result<Vec<Totals>, AllocError>
+    ensures { IfOk result (λ totals. AreTotals (map function_node functions.now) (length functions.now) totals.items) }
+{
+    let order = call_order(alloc, functions)?;
+    match totals_in_order(alloc, functions, order.functions.as_slice())? {
+        Some(totals) => Ok(totals),
+        None => totals_by_rounds(alloc, functions),
+    }
 }

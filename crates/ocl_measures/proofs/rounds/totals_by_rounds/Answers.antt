@@ -1,7 +1,7 @@
 use Rattle.std.proofs.Common.{◌≡◌, true, refl, sym, ◌∙◌, arith, rules}
 use Rattle.std.proofs.lemmas.Slice.Eq.{slice_eq-Decides}
 use Rattle.ocl_measures.proofs.Deeper.{round_made, round_steady}
-use Rattle.ocl_measures.proofs.rounds.all_totals.Goals as goal
+use Rattle.ocl_measures.proofs.rounds.totals_by_rounds.Goals as goal
 
 pub returns-then-eq : goal.returns-then-eq
 returns-then-eq c =
