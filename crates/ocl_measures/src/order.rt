@@ -99,7 +99,8 @@ impl Search {
         put(self.met.as_mut_slice(), function, self.count);
         put(self.back.as_mut_slice(), function, self.count);
         self.open.push(function)?;
-        self.path.push(Step { function, call: 0 })
+        self.path.push(Step { function, call: 0 })?;
+        Ok(())
     }
 
     /// Follows a call to a function.

@@ -26,7 +26,10 @@ pub fn assign_end(
     match part {
         Part::InBlock => match kind {
             TokenKind::Mark(Mark::Semicolon) => Ok(StmtMove::On(StmtFocus::Finished(statement))),
-            _ => Ok(StmtMove::Refused),
+            _ => {
+                drop(statement);
+                Ok(StmtMove::Refused)
+            }
         },
         Part::InFirst(done) => assign_end_first(kind, done, statement),
         Part::InStep(first, test, done) => {

@@ -140,7 +140,10 @@ pub fn declared_end(
             let moved = declared_first(kind, done, elem, constant, statement)?;
             Ok(moved)
         }
-        Part::InStep(..) => Ok(StmtMove::Refused),
+        Part::InStep(..) => {
+            drop(statement);
+            Ok(StmtMove::Refused)
+        }
     }
 }
 
@@ -163,7 +166,10 @@ fn declared_item(
             frames.push_item(statement)?;
             Ok(StmtMove::On(StmtFocus::NameNext(Part::InBlock, elem, constant)))
         }
-        _ => Ok(StmtMove::Refused),
+        _ => {
+            drop(statement);
+            Ok(StmtMove::Refused)
+        }
     }
 }
 

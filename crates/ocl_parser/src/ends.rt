@@ -86,7 +86,10 @@ fn close_into(
             frames.push(frame)?;
             Ok(StmtMove::On(StmtFocus::BodyStart))
         }
-        _ => Ok(StmtMove::Refused),
+        _ => {
+            drop(frame);
+            Ok(StmtMove::Refused)
+        }
     }
 }
 

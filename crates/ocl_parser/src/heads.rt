@@ -105,7 +105,10 @@ pub fn ending_step(kind: &TokenKind, statement: Statement) -> StmtMove
 {
     match kind {
         TokenKind::Mark(Mark::Semicolon) => StmtMove::On(StmtFocus::Finished(statement)),
-        _ => StmtMove::Refused,
+        _ => {
+            drop(statement);
+            StmtMove::Refused
+        }
     }
 }
 

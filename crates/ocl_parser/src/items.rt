@@ -90,7 +90,10 @@ fn close_frame(frame: StmtFrame, frames: &StmtFrames) -> StmtMove
 {
     match frame {
         StmtFrame::Block(items) => close_items(frames.is_empty(), items),
-        _ => StmtMove::Refused,
+        other => {
+            drop(other);
+            StmtMove::Refused
+        }
     }
 }
 
@@ -230,9 +233,10 @@ fn placed_step(
 }
 
 /// The second statement of an `if` ends it, so nothing waits behind it.
-fn refuse_behind(_test: Tree, _one: Statement) -> StmtMove
+fn refuse_behind(_test: Tree, one: Statement) -> StmtMove
     ensures { (K : List StmtFrame) → stmt_next result K ≡ Stops }
 {
+    drop(one);
     StmtMove::Refused
 }
 
@@ -263,6 +267,7 @@ fn else_step(
         frames.push(StmtFrame::Else(test, one))?;
         Ok(StmtMove::On(StmtFocus::BodyStart))
     } else {
+        drop(one);
         Ok(StmtMove::Refused)
     }
 }
@@ -273,6 +278,9 @@ fn while_step(kind: &TokenKind, body: Statement) -> StmtMove
 {
     match kind {
         TokenKind::Word(Word::While) => StmtMove::On(StmtFocus::DoWhile(body)),
-        _ => StmtMove::Refused,
+        _ => {
+            drop(body);
+            StmtMove::Refused
+        }
     }
 }

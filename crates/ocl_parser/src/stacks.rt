@@ -221,8 +221,14 @@ impl StmtFrames {
                 items.push(item)?;
                 self.push(StmtFrame::Block(items))
             }
-            Some(other) => self.push(other),
-            None => Ok(()),
+            Some(other) => {
+                drop(item);
+                self.push(other)
+            }
+            None => {
+                drop(item);
+                Ok(())
+            }
         }
     }
 }

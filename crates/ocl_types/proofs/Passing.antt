@@ -1,12 +1,13 @@
 -- The first fault of functions that are gone through one by one.
-use Rattle.std.proofs.Common.{◌≡◌, ℕ, zero, suc, ◌+◌, ◌-◌, ◌^◌, ◌<◌, ◌≤◌, Bool, true, false, ◌||◌, if◌then◌else◌, nat_lt, min, List, [], ◌∷◌, map, length, drop, get_or, Option, None, Some, Result, Ok, Err, refl, sym, ap, subst, ◌∙◌, arith}
+use Rattle.std.proofs.Common.{◌≡◌, ℕ, zero, suc, ◌+◌, ◌-◌, ◌^◌, ◌<◌, ◌≤◌, Bool, true, false, ◌||◌, if◌then◌else◌, nat_lt, min, List, [], ◌∷◌, map, length, drop, get_or, slice_get, Option, None, Some, Result, Ok, Err, refl, sym, ap, subst, ◌∙◌, arith}
 use Rattle.std.proofs.lemmas.Bool.Decides.{nat_tests}
 use Rattle.std.proofs.lemmas.List.{length-map}
+use Rattle.std.proofs.lemmas.Option.{none-some, same_Some}
 use Rattle.ocl_program.specs.Measures.{cut, measured, own_variables, own_nodes, own_control, own_calls}
 use Rattle.ocl_program.specs.Nodes.{FunctionNode}
 use Rattle.ocl_program.specs.Shapes.{function_node}
 use Rattle.ocl_program.specs.declared.functions.TypedFunction.{TypedFunction}
-use Rattle.ocl_measures.specs.Recursion.{is_recursive}
+use Rattle.ocl_measures.specs.Recursion.{IsFirstRecursive, is_recursive}
 use Rattle.ocl_measures.specs.Totals.{AreTotals, variables_of, nodes_of, control_of, calls_of}
 use Rattle.ocl_measures.specs.declared.sizes.Totals.{Totals}
 use Rattle.ocl_types.specs.declared.faults.Counted.TheVariants.{Variables, Nodes}
@@ -36,11 +37,40 @@ pub none_fails : (fault : ℕ → FunctionNode → Option TypeFault) (fs : List 
     length fs ≤ k → each_from fault k (drop k (map function_node fs)) ≡ whole → whole ≡ Ok tt
 none_fails fault fs k whole past known = sym known ∙ ap (each_from fault k) (none_left function_node fs k past)
 
-pub not_recursive : (program : List FunctionNode) (k : ℕ) (f : FunctionNode) → is_recursive program k ≡ false → recursion_of program k f ≡ None
-not_recursive program k f is = ap (λ (b : Bool). if b then Some (Recursive f.name.pos) else None) is
+-- functions without a fault
+none_from : (fault : ℕ → FunctionNode → Option TypeFault) (k : ℕ) (fs : List FunctionNode) → ((j : ℕ) (f : FunctionNode) → j < length fs → fault (k + j) f ≡ None) → each_from fault k fs ≡ Ok tt
+none_from fault k [] none = refl
+none_from fault k (f ∷ fs) none =
+    let here : fault k f ≡ None = subst (λ n. fault n f ≡ None) (omega arith) (none 0 f (omega arith)) in
+    ap (λ (r : Option TypeFault). unless_fault r (each_from fault (k + 1) fs)) here ∙
+    none_from fault (k + 1) fs (λ j g l. let e : k + suc j ≡ k + 1 + j = omega arith in subst (λ n. fault n g ≡ None) e (none (suc j) g (omega arith)))
 
-pub is_recursive_there : (program : List FunctionNode) (k : ℕ) (f : FunctionNode) → is_recursive program k ≡ true → recursion_of program k f ≡ Some (Recursive f.name.pos)
-is_recursive_there program k f is = ap (λ (b : Bool). if b then Some (Recursive f.name.pos) else None) is
+-- the first function with a fault
+one_from : (fault : ℕ → FunctionNode → Option TypeFault) (k : ℕ) (fs : List FunctionNode) (n : ℕ) (f : FunctionNode) (found : TypeFault) →
+    ((j : ℕ) (g : FunctionNode) → j < n → fault (k + j) g ≡ None) → slice_get fs n ≡ Some f → fault (k + n) f ≡ Some found → each_from fault k fs ≡ Err found
+one_from fault k [] n f found none at is = absurd (none-some f at)
+one_from fault k (g ∷ fs) zero f found none at is =
+    let e : k + 0 ≡ k = omega arith in
+    let same : g ≡ f = same_Some g f at in
+    ap (λ (r : Option TypeFault). unless_fault r (each_from fault (k + 1) fs)) (ap (fault k) same ∙ subst (λ n. fault n f ≡ Some found) e is)
+one_from fault k (g ∷ fs) (suc n) f found none at is =
+    let here : fault k g ≡ None = subst (λ n. fault n g ≡ None) (omega arith) (none 0 g (omega arith)) in
+    let e : k + suc n ≡ k + 1 + n = omega arith in
+    ap (λ (r : Option TypeFault). unless_fault r (each_from fault (k + 1) fs)) here ∙
+    one_from fault (k + 1) fs n f found (λ j h l. let d : k + suc j ≡ k + 1 + j = omega arith in subst (λ n. fault n h ≡ None) d (none (suc j) h (omega arith))) at
+    (subst (λ n. fault n f ≡ Some found) e is)
+
+recursion_by : (program : List FunctionNode) (k : ℕ) (f : FunctionNode) (b : Bool) → is_recursive program k ≡ b → recursion_of program k f ≡ (if b then Some (Recursive f.name.pos) else None)
+recursion_by program k f b is = ap (λ (b : Bool). if b then Some (Recursive f.name.pos) else None) is
+
+-- the fault of a file of which no function is recursive, and of one with a recursive function
+pub none_recursive : (program : List FunctionNode) → IsFirstRecursive program None → each_from (recursion_of program) 0 program ≡ Ok tt
+none_recursive program none = none_from (recursion_of program) 0 program (λ j f l. recursion_by program j f false (none j l))
+
+pub one_recursive : (program : List FunctionNode) (n : ℕ) (f : FunctionNode) → IsFirstRecursive program (Some n) → slice_get program n ≡ Some f →
+    each_from (recursion_of program) 0 program ≡ Err (Recursive f.name.pos)
+one_recursive program n f first at =
+    one_from (recursion_of program) 0 program n f (Recursive f.name.pos) (λ j g l. recursion_by program j g false (first.2 j l)) at (recursion_by program n f true first.1)
 
 -- a limit is passed exactly where it is passed up to the cut
 over_limit : (limit n : ℕ) → limit < 2 ^ 32 - 1 → nat_lt limit (cut n) ≡ nat_lt limit n

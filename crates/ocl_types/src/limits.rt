@@ -7,7 +7,7 @@ ghost use Rattle.ocl_types.specs.Results.{PassesTo};
 ghost use Rattle.ocl_types.specs.Functions.{each_from, kernel_fault as kernel_fault_of, params_fault as params_fault_of, recursion_of, sized_fault};
 
 use crate::faults::{Counted, TypeFault};
-use ocl_measures::recursion::is_recursive;
+use ocl_measures::recursion::first_recursive;
 use ocl_measures::rounds::totals_at;
 use ocl_measures::sizes::Totals;
 use ocl_program::TypedFunction;
@@ -34,22 +34,16 @@ fn kept(count: usize) -> u32
 }
 
 /// The fault of the first function that can reach a call of itself.
-#[tactic(auto, using(crate::proofs::Passing::passes, crate::proofs::Passing::fails, crate::proofs::Passing::none_fails, crate::proofs::Passing::not_recursive, crate::proofs::Passing::is_recursive_there))]
+#[tactic(auto, using(crate::proofs::Passing::none_recursive, crate::proofs::Passing::one_recursive))]
 pub fn check_recursion(alloc: Global, functions: &[TypedFunction]) -> Result<(), TypeFault>
     requires { length functions.now < 2 ^ 32 }
     ensures { PassesTo result (each_from (recursion_of (map function_node functions.now)) 0 (map function_node functions.now)) }
 {
-    for (number, function) in functions.iter().enumerate() {
-        match is_recursive(alloc, functions, number as u32) {
-            Ok(found) => {
-                if found {
-                    return Err(TypeFault::Recursive(function.name.pos));
-                }
-            }
-            Err(_full) => return Err(TypeFault::Memory),
-        }
+    match first_recursive(alloc, functions) {
+        Ok(None) => Ok(()),
+        Ok(Some(number)) => Err(TypeFault::Recursive(functions[number].name.pos)),
+        Err(_full) => Err(TypeFault::Memory),
     }
-    Ok(())
 }
 
 /// The fault of a function with too many parameters.
