@@ -1,7 +1,8 @@
 -- Totals taken in an order: of a function behind its callees they are those at every number of levels from then on.
 use Rattle.std.proofs.Common.{◌≡◌, ◌⊎◌, inl, inr, ℕ, zero, suc, ◌+◌, ◌<◌, ◌≤◌, Bool, true, false, ◌&&◌, cond, true≢false, List, [], ◌∷◌, map, sum, length, get_or, set, slice_get, Option, None, Some, refl, sym, ap, subst, ◌∙◌, arith}
 use Rattle.std.proofs.Math.Path.{fun_ext}
-use Rattle.std.specs.List.{list_all, replicate}
+use Rattle.std.specs.List.{list_all}
+use Rattle.std.specs.Prelude.{replicate}
 use Rattle.std.specs.Option.{unwrap_or}
 use Rattle.std.proofs.lemmas.Bool.{and_parts, cases_eq, cases_lt}
 use Rattle.std.proofs.lemmas.List.{length-set, length-replicate}

@@ -1,14 +1,16 @@
 -- A search along calls, which looks at each function that it reaches once: what it finds, and what it rules out.
-use Rattle.std.proofs.Common.{◌≡◌, ◌⊎◌, inl, inr, ℕ, zero, suc, ◌+◌, ◌==◌, ◌<◌, ◌≤◌, Bool, true, false, ◌||◌, not, cond, true≢false, List, [], ◌∷◌, ◌++◌, length, get_or, set, slice_get, Option, None, Some, refl, sym, ap, ◌∙◌, subst, arith}
+use Rattle.std.proofs.Common.{◌≡◌, ◌⊎◌, inl, inr, ℕ, zero, suc, ◌+◌, ◌==◌, ◌<◌, ◌≤◌, Bool, true, false, ◌||◌, not, cond, true≢false, List, [], ◌∷◌, ◌++◌, length, drop, get_or, set, slice_get, Option, None, Some, refl, sym, ap, ◌∙◌, subst, arith}
 use Rattle.std.specs.List.{list_any}
+use Rattle.std.specs.Prelude.{replicate}
 use Rattle.std.specs.Option.{unwrap_or}
 use Rattle.std.proofs.lemmas.Bool.{cases_Bool, cases_lt, or_cases, or_parts, or_from, or_left, or_right, false_from_ne_true, not-true}
-use Rattle.std.proofs.lemmas.List.{length-set, length_push, get_or_append_left, get_or_push}
+use Rattle.std.proofs.lemmas.List.{length-set, length-replicate, length_push, get_or_append_left, get_or_push}
 use Rattle.std.proofs.lemmas.Option.{slice_get_past}
 use Rattle.ocl_program.specs.declared.functions.CallSite.{CallSite}
 use Rattle.ocl_program.specs.Nodes.{FunctionNode}
 use Rattle.ocl_measures.specs.Recursion.{calls_at, is_recursive, leads, marked, some_leads}
 use Rattle.ocl_measures.specs.Searches.{and_reached, is_new, marks_with, reached_with}
+use Rattle.ocl_measures.proofs.Steps.{all_left, next_left}
 
 -- ---- marks
 
@@ -210,9 +212,9 @@ first_back program to zero m e h = h
 first_back program to (suc j) m e h = absurd (omega arith)
 
 -- the search begins
-pub begins : (program : List FunctionNode) (to : ℕ) (marks : List Bool) → length marks ≡ length program → count marks ≡ 0 → ((k : ℕ) → marked marks k ≡ false) → to < length program →
+begins_at : (program : List FunctionNode) (to : ℕ) (marks : List Bool) → length marks ≡ length program → count marks ≡ 0 → ((k : ℕ) → marked marks k ≡ false) → to < length program →
     IsSearch program to 0 (set marks to true) (to ∷ [])
-begins program to marks size none unmarked within = record {
+begins_at program to marks size none unmarked within = record {
   size = length-set marks to true ∙ size;
   counted = new_counts marks to (first_new marks to (omega arith) (unmarked to)) ∙ ap suc none;
   started = now_marked marks to (omega arith);
@@ -271,6 +273,26 @@ none_lead program to i marks reached s past (suc m) k h = elim (s.settled k h) [
         (none_lead program to i marks reached s past m) (λ j l. let size = s.size in past_leads program to m j (omega arith))
   | inr w ↦ absurd (let b = w.behind in let l = w.within in omega arith) ]
 
+no_marks : (n : ℕ) → count (replicate n false) ≡ 0
+no_marks zero = refl
+no_marks (suc n) = no_marks n
+
+unmarked : (n k : ℕ) → marked (replicate n false) k ≡ false
+unmarked zero k = refl
+unmarked (suc n) zero = refl
+unmarked (suc n) (suc k) = unmarked n k
+
+-- the search begins with one function
+pub begins : (program : List FunctionNode) (to n : ℕ) (marks : List Bool) (reached : List ℕ) → n ≡ length program → to < length program →
+    marks ≡ set (replicate n false) to true → reached ≡ and_reached (replicate n false) [] to → IsSearch program to 0 marks reached
+begins program to n marks reached size within marked_is reached_is =
+    let none = replicate n false in
+    let s : IsSearch program to 0 (set none to true) (to ∷ []) =
+      begins_at program to none (length-replicate n false ∙ size) (no_marks n) (unmarked n) within in
+    let new : is_new none to ≡ true = first_new none to (let e = length-replicate n false in omega arith) (unmarked n to) in
+    let list : reached ≡ to ∷ [] = reached_is ∙ ap (λ b. cond b (to ∷ []) []) new in
+    subst (λ rs. IsSearch program to 0 marks rs) (sym list) (subst (λ ms. IsSearch program to 0 ms (to ∷ [])) (sym marked_is) s)
+
 -- one function of the list is looked at
 pub looks : (program : List FunctionNode) (to i : ℕ) (marks : List Bool) (reached : List ℕ) (k : ℕ) (cs : List CallSite) → IsSearch program to i marks reached →
     i < length reached → get_or reached i 0 ≡ k → cs ≡ calls_at (slice_get program k) → list_any (λ (c : CallSite). c.callee == to) cs ≡ false →
@@ -307,3 +329,32 @@ all_looked program to i marks reached s past =
 -- there is no such function
 pub no_function : (program : List FunctionNode) (to : ℕ) → length program ≤ to → is_recursive program to ≡ false
 no_function program to past = past_leads program to (length program) to past
+
+-- ---- the callees of some calls, one by one
+
+pub record IsReaching (calls : List CallSite) (i : ℕ) (marks₀ : List Bool) (reached₀ : List ℕ) (marks : List Bool) (reached : List ℕ) : Type 0 where
+  pub marks_left : marks_with marks (drop i calls) ≡ marks_with marks₀ calls
+  pub reached_left : reached_with marks reached (drop i calls) ≡ reached_with marks₀ reached₀ calls
+
+pub reaching_begins : (calls : List CallSite) (marks : List Bool) (reached : List ℕ) → IsReaching calls 0 marks reached marks reached
+reaching_begins calls marks reached = record { marks_left = refl; reached_left = refl }
+
+pub reaching_goes_on : (calls : List CallSite) (i : ℕ) (marks₀ : List Bool) (reached₀ : List ℕ) (marks next : List Bool) (reached more : List ℕ) (c : CallSite) →
+    IsReaching calls i marks₀ reached₀ marks reached → i < length calls → c ≡ get_or calls i c → next ≡ set marks c.callee true → more ≡ and_reached marks reached c.callee →
+    IsReaching calls (i + 1) marks₀ reached₀ next more
+reaching_goes_on calls i marks₀ reached₀ marks next reached more c are within is marked reaches =
+    let left : drop i calls ≡ c ∷ drop (i + 1) calls = next_left calls i c within is in
+    record {
+      marks_left = ap (λ ms. marks_with ms (drop (i + 1) calls)) marked ∙ sym (ap (marks_with marks) left) ∙ are.marks_left;
+      reached_left =
+          ap (λ ms. reached_with ms more (drop (i + 1) calls)) marked ∙ ap (λ rs. reached_with (set marks c.callee true) rs (drop (i + 1) calls)) reaches ∙
+          sym (ap (reached_with marks reached) left) ∙ are.reached_left;
+    }
+
+pub marks_done : (calls : List CallSite) (i : ℕ) (marks₀ : List Bool) (reached₀ : List ℕ) (marks : List Bool) (reached : List ℕ) →
+    IsReaching calls i marks₀ reached₀ marks reached → length calls ≤ i → marks ≡ marks_with marks₀ calls
+marks_done calls i marks₀ reached₀ marks reached are past = sym (ap (marks_with marks) (all_left calls i past)) ∙ are.marks_left
+
+pub reached_done : (calls : List CallSite) (i : ℕ) (marks₀ : List Bool) (reached₀ : List ℕ) (marks : List Bool) (reached : List ℕ) →
+    IsReaching calls i marks₀ reached₀ marks reached → length calls ≤ i → reached ≡ reached_with marks₀ reached₀ calls
+reached_done calls i marks₀ reached₀ marks reached are past = sym (ap (reached_with marks reached) (all_left calls i past)) ∙ are.reached_left

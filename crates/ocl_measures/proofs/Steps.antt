@@ -15,7 +15,7 @@ left_from (y ∷ ys) (suc k) x within is = left_from ys k x (omega arith) is
 suc_is : (k : ℕ) → suc k ≡ k + 1
 suc_is k = omega arith
 
-next_left : {A : Type 0} (xs : List A) (k : ℕ) (x : A) → k < length xs → x ≡ get_or xs k x → drop k xs ≡ x ∷ drop (k + 1) xs
+pub next_left : {A : Type 0} (xs : List A) (k : ℕ) (x : A) → k < length xs → x ≡ get_or xs k x → drop k xs ≡ x ∷ drop (k + 1) xs
 next_left xs k x within is = left_from xs k x within is ∙ ap (λ j. x ∷ drop j xs) (suc_is k)
 
 none_left : {A : Type 0} (k : ℕ) → drop {A = A} k [] ≡ []

@@ -1,6 +1,6 @@
 //! Functions that reach a call of themselves.
-ghost use Rattle.std.specs.Prelude.{◌≡◌, ◌<◌, ◌^◌, Bool, true, IfOk, OnOk, length, map, option_map, set};
-ghost use Rattle.std.specs.List.{list_any, slice_get};
+ghost use Rattle.std.specs.Prelude.{◌≡◌, ◌<◌, ◌^◌, Bool, true, IfOk, OnOk, length, map, set, slice_get};
+ghost use Rattle.std.specs.List.{list_any};
 ghost use Rattle.ocl_program.specs.Shapes.{function_node};
 ghost use Rattle.ocl_program.specs.declared.functions.CallSite.{CallSite};
 ghost use Rattle.ocl_measures.specs.Recursion.{IsFirstRecursive, PartsFall, all_below as all_below_of, calls_at, is_recursive as is_recursive_of, marked, part_at as part_at_of};
@@ -52,6 +52,7 @@ fn reach(marks: &mut Vec<bool>, reached: &mut Vec<u32>, function: u32) -> Result
 }
 
 /// Reaches the callees of some calls.
+#[tactic(auto, using(crate::proofs::Searching::reaching_begins, crate::proofs::Searching::reaching_goes_on, crate::proofs::Searching::marks_done, crate::proofs::Searching::reached_done))]
 fn reach_callees(
     calls: &[CallSite],
     marks: &mut Vec<bool>,
@@ -67,6 +68,7 @@ fn reach_callees(
 }
 
 /// Whether a function can reach a call of itself: each function that it reaches is looked at once.
+#[tactic(auto, using(crate::proofs::Searching::begins, crate::proofs::Searching::looks, crate::proofs::Searching::found, crate::proofs::Searching::ends, crate::proofs::Searching::all_looked, crate::proofs::Searching::no_function))]
 pub fn is_recursive(
     alloc: Global,
     functions: &[TypedFunction],
@@ -128,6 +130,7 @@ fn parts_fall(functions: &[TypedFunction], parts: &[u32]) -> bool
 
 /// The first function of a program that can reach a call of itself. Where no call of a function leads to its own part or a
 /// greater one, nothing is searched.
+#[tactic(auto, using(crate::proofs::Parting::not_recursive))]
 pub fn first_recursive(
     alloc: Global,
     functions: &[TypedFunction],

@@ -121,6 +121,7 @@ fn are_marked(calls: &[CallSite], marks: &[bool]) -> bool
 
 /// The totals of the functions of a program in an order, each behind its callees. None where the order leaves out a
 /// function, has more places than there are functions, or has one before one that it calls.
+#[tactic(auto, using(crate::proofs::Knowing::none_known, crate::proofs::Knowing::one_known, crate::proofs::Knowing::all_known))]
 fn totals_in_order(
     alloc: Global,
     functions: &[TypedFunction],
