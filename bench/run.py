@@ -167,7 +167,8 @@ def front():
     if not os.access(FRONT_SPEED, os.X_OK):
         sys.exit("bench: front_speed is not built: run rt run -- names 1000 in crates/front_speed once")
     print("%-9s %8s %10s %10s %10s %12s" % ("text", "status", "bytes", "tokens", "seconds", "peak MiB"))
-    texts = [(kind, LIMIT) for kind in ("names", "marks", "uses", "nested", "undefs", "program", "functions")]
+    texts = [(kind, LIMIT) for kind in ("names", "marks", "uses", "nested", "undefs", "program", "functions",
+                                           "alone", "chain", "circle", "wide")]
     wrong = 0
     for kind, most in (*texts, ("calls", 821), ("calls", 2681), ("loops", 15_400), ("loops", 61_400)):
         with tempfile.TemporaryFile() as output:

@@ -1,7 +1,8 @@
 //! The program `front_speed`: takes the tokens of a text that it makes, for measurements of speed (`bench/`). Its words are
 //! what the text is made of, `names`, `marks`, `uses` (of macros that use others), `nested` (macros that stand deep in one
 //! another), `undefs` (macros that are all undefined again), `program` (statements of one function, which it also parses),
-//! `functions` (a thousand functions, of which it also makes the program), `calls` (a kernel of calls of a helper) or `loops` (a
+//! `functions` (a thousand functions, of which it also makes the program), `alone`, `chain`, `circle` and `wide` (as many small
+//! functions as there is room for, by what they call; the program of a circle is refused), `calls` (a kernel of calls of a helper) or `loops` (a
 //! kernel of loops that a `break` leaves), and how many bytes it has at most, up to 1,048,576. Of a kernel it also makes structured
 //! code without jumps, a hundred times. It prints the bytes and the tokens.
 #![tactic(auto)]
@@ -30,6 +31,10 @@ enum Kind {
     Undefs,
     Program,
     Functions,
+    Alone,
+    Chain,
+    Circle,
+    Wide,
     Calls,
     Loops,
 }
@@ -43,6 +48,10 @@ fn kind_of(word: &str) -> Option<Kind> {
         "undefs" => Some(Kind::Undefs),
         "program" => Some(Kind::Program),
         "functions" => Some(Kind::Functions),
+        "alone" => Some(Kind::Alone),
+        "chain" => Some(Kind::Chain),
+        "circle" => Some(Kind::Circle),
+        "wide" => Some(Kind::Wide),
         "calls" => Some(Kind::Calls),
         "loops" => Some(Kind::Loops),
         _ => None,
@@ -135,6 +144,37 @@ fn functions(alloc: Global, bytes: usize) -> Result<Vec<u8>, AllocError> {
     Ok(text)
 }
 
+/// Functions of a few bytes, each with another name: `alone` they call none, in a `chain` each calls the one before it, in a
+/// `circle` the first calls the last too, and `wide` is the last, which calls all others.
+fn small(alloc: Global, kind: Kind, bytes: usize) -> Result<Vec<u8>, AllocError> {
+    // (a function and a call of it have at most 46 bytes)
+    let functions = (bytes / 46).min(99_999);
+    let mut text = Vec::new(alloc);
+    for number in 0..functions {
+        let callee = if number == 0 { functions.saturating_sub(1) } else { number - 1 };
+        let calls = match kind {
+            Kind::Chain => number > 0,
+            Kind::Circle => true,
+            _ => false,
+        };
+        let function = if calls {
+            format!(in alloc; "int f{number}(int a) {{ return f{callee}(a); }}\n")?
+        } else {
+            format!(in alloc; "int f{number}(int a) {{ return a; }}\n")?
+        };
+        text.extend_from_slice(function.as_bytes())?;
+    }
+    if let Kind::Wide = kind {
+        text.extend_from_slice(b"void g() {\n")?;
+        for number in 0..functions {
+            let call = format!(in alloc; "f{number}(1);\n")?;
+            text.extend_from_slice(call.as_bytes())?;
+        }
+        text.extend_from_slice(b"}\n")?;
+    }
+    Ok(text)
+}
+
 /// A kernel that calls a helper of 62 nodes again and again.
 fn calls(alloc: Global, bytes: usize) -> Result<Vec<u8>, AllocError> {
     let mut text = Vec::from_slice(alloc, b"int h(int a) { return ")?;
@@ -198,6 +238,7 @@ fn make_text(alloc: Global, kind: Kind, bytes: usize) -> Result<Vec<u8>, AllocEr
         Kind::Undefs => defined_and_undefined(alloc, bytes),
         Kind::Program => program(alloc, bytes),
         Kind::Functions => functions(alloc, bytes),
+        Kind::Alone | Kind::Chain | Kind::Circle | Kind::Wide => small(alloc, kind, bytes),
         Kind::Calls => calls(alloc, bytes),
         Kind::Loops => loops(alloc, bytes),
     }
@@ -209,7 +250,8 @@ fn is_taken(alloc: Global, kind: Kind, text: &[u8], tokens: &Tokens) -> bool
 {
     match kind {
         Kind::Program => parse(alloc, tokens).is_ok(),
-        Kind::Functions => front(alloc, text).is_ok(),
+        Kind::Functions | Kind::Alone | Kind::Chain | Kind::Wide => front(alloc, text).is_ok(),
+        Kind::Circle => front(alloc, text).is_err(),
         Kind::Calls | Kind::Loops => match front(alloc, text) {
             Ok(program) => is_passed(alloc, &program),
             Err(_fault) => false,
