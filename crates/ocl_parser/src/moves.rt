@@ -5,7 +5,7 @@ use crate::trees::{Statements, Tree};
 use ocl_ast::Function;
 
 /// What a token does in an expression.
-#[derive(Debug, Drop)]
+#[derive(Drop)]
 pub enum ExprMove {
     /// The expression goes on with it.
     On(ExprFocus),
@@ -16,7 +16,7 @@ pub enum ExprMove {
 }
 
 /// What a token does in a function's body.
-#[derive(Debug, Drop)]
+#[derive(Drop)]
 pub enum StmtMove {
     /// The body goes on with it.
     On(StmtFocus),
@@ -27,7 +27,7 @@ pub enum StmtMove {
 }
 
 /// What a token does in a file.
-#[derive(Debug, Drop)]
+#[derive(Drop)]
 pub enum UnitMove {
     /// The file goes on with it.
     On(UnitFocus),

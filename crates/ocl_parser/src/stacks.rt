@@ -11,7 +11,7 @@ use std::marker::Model;
 use vx_base::Memory;
 
 /// What an expression stands in.
-#[derive(Debug, Drop)]
+#[derive(Drop)]
 pub struct ExprFrames {
     /// The frames, the innermost last.
     items: Vec<ExprFrame>,
@@ -112,7 +112,7 @@ fn ends(level: u32, frame: &ExprFrame) -> bool
 }
 
 /// What a statement stands in.
-#[derive(Debug, Drop)]
+#[derive(Drop)]
 pub struct StmtFrames {
     /// The frames, the innermost last.
     items: Vec<StmtFrame>,

@@ -8,7 +8,7 @@ use ocl_ast::{AssignOp, Gives, Ident, ParamList, UnOp};
 use vx_base::{Elem, ParamKind, Pos, Space};
 
 /// What has been read of an operand.
-#[derive(Debug, Drop)]
+#[derive(Drop)]
 pub enum ExprFocus {
     /// Nothing.
     Operand,
@@ -25,7 +25,7 @@ pub enum ExprFocus {
 }
 
 /// A construct that waits for an expression in it.
-#[derive(Debug, Drop)]
+#[derive(Drop)]
 pub enum ExprFrame {
     /// An operator before its operand.
     Unary(UnOp, Pos),
@@ -46,7 +46,7 @@ pub enum ExprFrame {
 }
 
 /// Where a declaration or an assignment stands.
-#[derive(Debug, Drop)]
+#[derive(Drop)]
 pub enum Part {
     /// Among the items of a block, or as a body.
     InBlock,
@@ -57,7 +57,7 @@ pub enum Part {
 }
 
 /// What an expression is for.
-#[derive(Debug, Drop)]
+#[derive(Drop)]
 pub enum Purpose {
     /// The first value of a name.
     InitOf(Part, Elem, bool, Ident),
@@ -84,7 +84,7 @@ pub enum Purpose {
 }
 
 /// A construct that waits for a statement in it.
-#[derive(Debug, Drop)]
+#[derive(Drop)]
 pub enum StmtFrame {
     /// A block with its items so far.
     Block(Statements),
@@ -101,7 +101,7 @@ pub enum StmtFrame {
 }
 
 /// What has been read of a statement.
-#[derive(Debug, Drop)]
+#[derive(Drop)]
 pub enum StmtFocus {
     /// Nothing, in a block.
     ItemStart,
@@ -168,7 +168,7 @@ pub enum StmtFocus {
 }
 
 /// What stands before a function's parameters.
-#[derive(Debug, Drop)]
+#[derive(Drop)]
 pub struct Head {
     /// Whether it is a kernel.
     pub kernel: bool,
@@ -179,7 +179,7 @@ pub struct Head {
 }
 
 /// What has been read of a function.
-#[derive(Debug, Drop)]
+#[derive(Drop)]
 pub enum UnitFocus {
     /// Nothing.
     Outside,

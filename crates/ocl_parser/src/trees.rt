@@ -9,7 +9,7 @@ use std::marker::Model;
 use vx_base::{Elem, Memory, Pos};
 
 /// An expression with its height.
-#[derive(Debug, Drop)]
+#[derive(Drop)]
 pub struct Tree {
     /// The expression.
     expr: Expr,
@@ -178,7 +178,7 @@ pub fn expr_of(tree: Option<Tree>) -> Option<Expr>
 }
 
 /// Arguments of a call with the greatest height among them.
-#[derive(Debug, Drop)]
+#[derive(Drop)]
 pub struct Args {
     /// The arguments in order.
     items: ExprList,
@@ -241,7 +241,7 @@ impl Args {
 }
 
 /// What an assignment changes.
-#[derive(Debug, Drop)]
+#[derive(Drop)]
 pub struct Destination {
     /// The target.
     target: Target,
@@ -283,7 +283,7 @@ impl Destination {
 }
 
 /// A statement.
-#[derive(Debug, Drop)]
+#[derive(Drop)]
 pub struct Statement {
     /// The statement.
     stmt: Stmt,
@@ -462,7 +462,7 @@ impl Statement {
 }
 
 /// Statements in order.
-#[derive(Debug, Drop)]
+#[derive(Drop)]
 pub struct Statements {
     /// The statements in order.
     items: StmtList,
