@@ -15,7 +15,7 @@
   bench/run.py core   millions of instructions a second of processor time of one core with 1 and 16 warps, in a loop with a load
                       and a store on words of its own; after rt ci or, in crates/core_steps, rt run has built that program
 
-The peak is never below that of the interpreter that starts the program, about 14 MiB.
+It fails where a program ends with another status than it is to. The peak is never below that of the interpreter that starts the program, about 14 MiB.
 """
 import os
 import struct
@@ -43,13 +43,14 @@ def affine(folder):
             "buf=y:int:zero:8", "do=affine/8/8/x,y", "show=y"]
 
 
-def largest(folder):
-    """The largest launch of today's form: 32 work-items, 16 buffers, and a mebibyte of assignments."""
+def assignments(folder, most):
+    """A launch of 32 work-items over 16 buffers, whose kernel has as many assignments as there is room for, and at most so many.
+    Each has 12 nodes, of which a kernel may have 16,384."""
     names = ["p%d" % n for n in range(16)]
     head = "__kernel void k(" + ", ".join("__global int *" + n for n in names) + ") {"
     text, n = [head], 0
     size = len(head) + 1
-    while True:
+    while n < most:
         a, b = names[n % 16], names[(n + 1) % 16]
         line = "%s[get_global_id(0)] = %s[get_global_id(0)] * 3 + get_global_id(0);" % (a, b)
         if size + len(line) > LIMIT:
@@ -63,6 +64,16 @@ def largest(folder):
         file.write(b"".join(struct.pack("<i", v) for v in range(32)))
     return (["run", "k.cl"] + ["buf=%s:int:in:d.bin" % n for n in names]
             + ["do=k/32/32/" + ",".join(names)] + ["show=" + n for n in names])
+
+
+def largest(folder):
+    """The largest launch of today's form: as many assignments as a kernel may have."""
+    return assignments(folder, 16_384 // 12)
+
+
+def refused(folder):
+    """A mebibyte of assignments, which are too many for a kernel."""
+    return assignments(folder, LIMIT)
 
 
 def assembly(folder):
@@ -86,6 +97,13 @@ def run_once(words, folder, output=subprocess.DEVNULL):
     child = subprocess.Popen(words, cwd=folder, stdout=output)
     _, status, usage = os.wait4(child.pid, 0)
     return os.waitstatus_to_exitcode(status), time.monotonic() - begun, usage.ru_maxrss / 1024
+
+
+def failed(wrong):
+    """The status of the bench: 1 where some program ended otherwise than it is to."""
+    if wrong:
+        print("bench: %d statuses are not what they are to be" % wrong)
+    return 1 if wrong else 0
 
 
 def measure(make):
@@ -150,13 +168,16 @@ def front():
         sys.exit("bench: front_speed is not built: run rt run -- names 1000 in crates/front_speed once")
     print("%-9s %8s %10s %10s %10s %12s" % ("text", "status", "bytes", "tokens", "seconds", "peak MiB"))
     texts = [(kind, LIMIT) for kind in ("names", "marks", "uses", "nested", "undefs", "program", "functions")]
+    wrong = 0
     for kind, most in (*texts, ("calls", 821), ("calls", 2681), ("loops", 15_400), ("loops", 61_400)):
         with tempfile.TemporaryFile() as output:
             status, seconds, peak = run_once([FRONT_SPEED, kind, str(most)], None, output)
             output.seek(0)
             said = output.read().decode().split() or ["", ""]
         print("%-9s %8d %10s %10s %10.3f %12.1f" % (kind, status, said[0], said[1], seconds, peak))
-    return 0
+        # (a text that is refused behind the lexer has no tokens)
+        wrong += status != 0 or said[1] == "0"
+    return failed(wrong)
 
 
 def main():
@@ -171,10 +192,12 @@ def main():
     if not os.access(PROGRAM, os.X_OK):
         sys.exit("bench: the program is not built: run ./vx once")
     print("%-12s %8s %10s %12s" % ("input", "status", "seconds", "peak MiB"))
-    for make in (affine, largest, assembly, disassembly):
+    wrong = 0
+    for make, wanted in ((affine, 0), (largest, 0), (refused, 2), (assembly, 0), (disassembly, 0)):
         status, seconds, peak = measure(make)
         print("%-12s %8d %10.3f %12.1f" % (make.__name__, status, seconds, peak))
-    return 0
+        wrong += status != wanted
+    return failed(wrong)
 
 
 if __name__ == "__main__":
