@@ -50,7 +50,7 @@ spans_self (Shared a) size = let pos = size_pos size in and_from _ _ (le-leb a a
 spans_self (Scratch a) size = let pos = size_pos size in and_from _ _ (le-leb a a (omega arith)) (lt-ltb a (a + bytes_of size) (omega (arith, pos)))
 
 -- a write that touches no array writes no cell of one
-aside_not : (holds : ℕ → Cell → Held) (cell c : Cell) (n other : ℕ) (q : Place) → ((z : ℕ) (d : Cell) → spans cell n d ≡ true → holds z d ≡ NoByte)
+pub aside_not : (holds : ℕ → Cell → Held) (cell c : Cell) (n other : ℕ) (q : Place) → ((z : ℕ) (d : Cell) → spans cell n d ≡ true → holds z d ≡ NoByte)
     → holds other c ≡ Byte q → spans cell n c ≡ false
 aside_not holds cell c n other q aside is =
     false_from_ne_true _ (λ e. let clash : NoByte ≡ Byte q = sym (aside other c e) ∙ is in cc)

@@ -137,7 +137,7 @@ local_zero own given (Global buffer byte) in_group = absurd in_group
 local_zero own given (Local group array byte) in_group = refl
 
 -- and a buffer has what is given
-global_given : (l : Launch) (holds : ℕ → Cell → Held) (given : ℕ → ℕ → ℕ) (opening : ℕ → ℕ)
+pub global_given : (l : Launch) (holds : ℕ → Cell → Held) (given : ℕ → ℕ → ℕ) (opening : ℕ → ℕ)
     → ((item a buffer byte : ℕ) → holds item (Shared a) ≡ Byte (Global buffer byte) → opening a ≡ given buffer byte)
     → (item a : ℕ) (q : Place) → IsGlobal q → holds item (Shared a) ≡ Byte q → opening a ≡ opening_bytes given q
 global_given l holds given opening opens item a (Global buffer byte) global is = opens item a buffer byte is

@@ -9,4 +9,5 @@
 
 pub mod laws;
 pub mod list_laws;
+pub mod move_laws;
 pub mod worked;
