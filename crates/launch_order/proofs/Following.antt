@@ -188,10 +188,10 @@ module _ (l : Launch) (given final : ℕ → ℕ → ℕ) (cores : ℕ) (events 
       let after_x : Each (λ y. x.event.place ≤ y.event.place) tail = (sorted_back done (x ∷ tail) (subst Sorted split (sorted_merged events cores))).0 in
       subst (StoresFrom x.event.place byte) (project_merged events cores other known.rising below)
       (stores_of_project x.event.place byte other (merged events cores)
-      (subst (Each (λ y. y.core ≡ other → stores y.event.what byte ≡ true → x.event.place ≤ y.event.place)) (sym split)
-      (each_append (λ y. y.core ≡ other → stores y.event.what byte ≡ true → x.event.place ≤ y.event.place) done (x ∷ tail)
-      (each_with (λ y not same stored. absurd (true≢false (sym stored ∙ not (λ e. differ (sym same ∙ e))))) done alone)
-      (λ same stored. absurd (differ (sym same)), each_with (λ y le same stored. le) tail after_x))))
+      (subst (Each (λ y. y.core ≡ other → StoresFrom x.event.place byte (y.event ∷ []))) (sym split)
+      (each_append (λ y. y.core ≡ other → StoresFrom x.event.place byte (y.event ∷ [])) done (x ∷ tail)
+      (each_with (λ y not same. (λ stored. absurd (true≢false (sym stored ∙ not (λ e. differ (sym same ∙ e)))), tt)) done alone)
+      (λ same. absurd (differ (sym same)), each_with (λ y le same. (λ stored. le, tt)) tail after_x))))
 
   -- and the answer is what the interleaving has
   told_load : (done tail : List Tagged) (x : Tagged) → merged events cores ≡ done ++ x ∷ tail → Follows l given done

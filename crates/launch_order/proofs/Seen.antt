@@ -108,10 +108,10 @@ seen_byte core byte (x ∷ xs) alone s t same =
 
 -- which of the events of one core store a byte, by the events of all
 pub stores_of_project : (place : ℕ) (byte : Place) (core : ℕ) (xs : List Tagged)
-    → Each (λ y. y.core ≡ core → stores y.event.what byte ≡ true → place ≤ y.event.place) xs → StoresFrom place byte (project core xs)
+    → Each (λ y. y.core ≡ core → StoresFrom place byte (y.event ∷ [])) xs → StoresFrom place byte (project core xs)
 stores_of_project place byte core [] each = tt
 stores_of_project place byte core (y ∷ ys) each =
     elim (cases_eq y.core core) [
-      | inl e ↦ subst (StoresFrom place byte) (sym (project_here core y ys e)) (each.0 e, stores_of_project place byte core ys each.1)
+      | inl e ↦ subst (StoresFrom place byte) (sym (project_here core y ys e)) ((each.0 e).0, stores_of_project place byte core ys each.1)
       | inr differ ↦ subst (StoresFrom place byte) (sym (project_past core y ys differ)) (stores_of_project place byte core ys each.1)
     ]
