@@ -1,27 +1,25 @@
 -- What follows for the ends of a launch: each front of the one order is followed by turns, and so is the whole of it.
-use Rattle.std.proofs.Common.{◌≡◌, ◌≢◌, ℕ, zero, ◌+◌, ◌<◌, ◌≤◌, ◌⊎◌, Bool, true, false, List, [], ◌∷◌, ◌++◌, slice_index, refl, ap, sym, ◌∙◌, subst, subst₂, inl, inr, arith, append_assoc, append-nil}
+use Rattle.std.proofs.Common.{◌≡◌, ◌≢◌, ℕ, ◌+◌, ◌<◌, ◌≤◌, ◌⊎◌, true, false, List, [], ◌∷◌, ◌++◌, slice_index, refl, ap, sym, ◌∙◌, subst, subst₂, inl, inr, arith, append_assoc, append-nil}
 use Rattle.std.proofs.lemmas.Bool.{cases_eq, cases_lt, cases_Bool, cond-false, false_from_ne_true, true≢false}
 use Rattle.vx_base.specs.Bytes.{bytes_of}
 use Rattle.vx_base.specs.declared.types.Pos.{Pos}
-use Rattle.vx_base.specs.declared.types.Size.{Size}
 use Rattle.item_acts.specs.declared.acts.Place.{Place}
 use Rattle.item_acts.specs.declared.acts.Place.TheVariants.{Global, Local}
-use Rattle.item_acts.specs.declared.acts.Action.{Action}
 use Rattle.item_acts.specs.declared.acts.Action.TheVariants.{Load, Store, Barrier, Fault, End}
-use Rattle.item_acts.specs.Launches.{Launch, ItemAsks, group_of, State, Going, Ended, start, covers, Turn, Does, Passes, after, IsInside, MayDo, Waits, Allowed, run, IsComplete}
+use Rattle.item_acts.specs.Launches.{Launch, ItemAsks, group_of, State, start, covers, Turn, Does, Passes, after, IsInside, MayDo, Waits, Allowed, run, IsComplete}
 use Rattle.item_acts.specs.declared.acts.Asked.TheVariants.{Act}
 use Rattle.item_acts.specs.declared.acts.Point.{Point}
-use Rattle.item_acts.specs.Tame.{Access, log_of, HasRace, NeverPasses, IsApart, LaunchLeaves}
+use Rattle.item_acts.specs.Tame.{Access, log_of, HasRace, NeverPasses, LaunchLeaves}
 use Rattle.item_acts.proofs.Launches.{covers_within}
 use Rattle.item_acts.proofs.Schedules.{complete_leaves}
 use Rattle.launch_order.specs.Events.{Loaded, Stored, Finished, Happening, Did, Released, Event, CoreEnd, AllDone, AtFault, Stuck, led, stores}
-use Rattle.launch_order.specs.Cores.{StoreNot, IsUnshared, IsSound, CoreEvents}
+use Rattle.launch_order.specs.Cores.{StoreNot, IsSound, CoreEvents}
 use Rattle.launch_order.specs.Lists.{IsOrderlyWithin, FaultComes, IsReached}
-use Rattle.launch_order.proofs.Merged.{Tagged, project, untagged, Each, each_with, each_both, project_here, project_past, merged, project_merged}
+use Rattle.launch_order.proofs.Merged.{Tagged, project, Each, each_with, each_both, project_here, project_past, merged, project_merged}
 use Rattle.launch_order.proofs.Seen.{Moves, IsHome, SameItem, seen_byte}
 use Rattle.launch_order.proofs.Logged.{allowed_append, free_faults, Among, IsLogged}
-use Rattle.launch_order.proofs.Following.{whole, own, Follows, follows_none, other_stores_not, home_all, below_all, sound_at, seen, add_deed}
-use Rattle.launch_order.proofs.Released.{none_apart, waits_whole, add_release}
+use Rattle.launch_order.proofs.Following.{own, Follows, follows_none, other_stores_not, home_all, below_all, sound_at, seen, add_deed}
+use Rattle.launch_order.proofs.Released.{none_apart, add_release}
 
 -- a front of some events with these of one core
 record FrontOf (core : ℕ) (xs : List Tagged) (before : List Event) : Type 0 where
@@ -86,10 +84,10 @@ store_not_project byte core (y ∷ ys) each =
 not_outside : (l : Launch) (p : Place) (n buffer byte : ℕ) → IsInside l p n → slice_index l.buffers buffer ≤ byte → covers p n (Global buffer byte) ≡ false
 not_outside l (Global b at) n buffer byte inside out =
     false_from_ne_true _ (λ e.
-      let within = covers_within b at n buffer byte e in
-      let last : at + n ≤ slice_index l.buffers buffer = subst (λ k. at + n ≤ slice_index l.buffers k) within.0 inside in
-      let below : byte < at + n = within.2 in
-      omega (arith, last, below, out))
+    let within = covers_within b at n buffer byte e in
+    let last : at + n ≤ slice_index l.buffers buffer = subst (λ k. at + n ≤ slice_index l.buffers k) within.0 inside in
+    let below : byte < at + n = within.2 in
+    omega (arith, last, below, out))
 not_outside l (Local group array at) n buffer byte inside out = refl
 
 -- so turns leave such bytes as they are
@@ -194,7 +192,7 @@ module _ (l : Launch) (given final : ℕ → ℕ → ℕ) (cores : ℕ) (events 
   byte_of_core core below buffer byte inside alone =
       known.final_own core below buffer byte inside
       (λ other below' differ. subst (StoreNot (Global buffer byte)) (project_merged events cores other known.rising below')
-        (store_not_project (Global buffer byte) other (merged events cores) (each_with (λ y not same. not (λ e. differ (sym same ∙ e))) (merged events cores) alone)))
+      (store_not_project (Global buffer byte) other (merged events cores) (each_with (λ y not same. not (λ e. differ (sym same ∙ e))) (merged events cores) alone)))
       ∙ ap (λ s. s.bytes (Global buffer byte)) (sym (own_end core below))
       ∙ seen_byte core (Global buffer byte) (merged events cores) alone (start given) (start given) refl
       ∙ ap (λ s. s.bytes (Global buffer byte)) (sym follows_all.same)
@@ -230,7 +228,7 @@ module _ (l : Launch) (given final : ℕ → ℕ → ℕ) (cores : ℕ) (events 
   pub done_leaves : ((core : ℕ) → core < cores → ends core ≡ AllDone) → LaunchLeaves l given final
   done_leaves done =
       let leaves = complete_leaves l given n orderly.settled orderly.positive orderly.tame follows_all.turns
-        (record { allowed = follows_all.allowed; complete = complete_end done }) in
+      (record { allowed = follows_all.allowed; complete = complete_end done }) in
       record {
         turns = leaves.turns;
         first = leaves.first;
@@ -291,8 +289,8 @@ module _ (l : Launch) (given final : ℕ → ℕ → ℕ) (cores : ℕ) (events 
       let cut = front_with core (merged events cores) before behind (project_merged events cores core known.rising below ∙ e) in
       let f = follows_front cut.front cut.rest cut.split in
       let see : (item : ℕ) → known.core_of (group_of l item) ≡ core → SameItem (led (start given) before) (run l (start given) f.turns) item =
-        λ item here. subst₂ (λ s t. SameItem s t item) (ap (led (start given)) cut.projects) (sym f.same)
-          (seen l given final cores events ends known n orderly cut.front cut.rest cut.split core item here) in
+      λ item here. subst₂ (λ s t. SameItem s t item) (ap (led (start given)) cut.projects) (sym f.same)
+      (seen l given final cores events ends known n orderly cut.front cut.rest cut.split core item here) in
       record {
         turns = f.turns;
         allowed = f.allowed;
@@ -300,6 +298,6 @@ module _ (l : Launch) (given final : ℕ → ℕ → ℕ) (cores : ℕ) (events 
         answers = λ item here. (see item here).answers;
         standing = λ item here. (see item here).standing;
         soon = λ item exists here going.
-          let next = orderly.tame.soon f.turns f.allowed (free_faults f.turns f.free) item exists (sym (see item here).standing ∙ going) in
-          (next.0, subst (λ answers. l.asks item answers n ≡ Act next.0) (sym (see item here).answers) next.1);
+            let next = orderly.tame.soon f.turns f.allowed (free_faults f.turns f.free) item exists (sym (see item here).standing ∙ going) in
+            (next.0, subst (λ answers. l.asks item answers n ≡ Act next.0) (sym (see item here).answers) next.1);
       }

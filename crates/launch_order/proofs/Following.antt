@@ -1,13 +1,12 @@
 -- Behind each front of the one order, some turns without a fault lead to what its events have led to.
-use Rattle.std.proofs.Common.{◌≡◌, ◌≢◌, ℕ, zero, suc, ◌<◌, ◌≤◌, Bool, true, false, List, [], ◌∷◌, ◌++◌, refl, ap, sym, ◌∙◌, subst, inl, append_assoc}
+use Rattle.std.proofs.Common.{◌≡◌, ◌≢◌, ℕ, ◌<◌, ◌≤◌, true, false, List, [], ◌∷◌, ◌++◌, refl, ap, sym, ◌∙◌, subst, inl, append_assoc}
 use Rattle.std.proofs.lemmas.Bool.{true≢false, false_from_ne_true}
 use Rattle.vx_base.specs.Bytes.{bytes_of}
 use Rattle.vx_base.specs.declared.types.Size.{Size}
 use Rattle.vx_base.proofs.NumberLaws.{number_of-same}
 use Rattle.item_acts.specs.declared.acts.Place.{Place}
-use Rattle.item_acts.specs.declared.acts.Action.{Action}
-use Rattle.item_acts.specs.declared.acts.Action.TheVariants.{Load, Store, End}
-use Rattle.item_acts.specs.Launches.{Launch, ItemAsks, group_of, State, Going, start, further, covers, field_at, put_at, answers_to, Turn, Does, after, IsTurn, MayDo, May, Allowed, run}
+use Rattle.item_acts.specs.declared.acts.Action.TheVariants.{Load}
+use Rattle.item_acts.specs.Launches.{Launch, ItemAsks, group_of, State, start, further, covers, field_at, put_at, answers_to, Turn, Does, after, IsTurn, MayDo, May, Allowed, run}
 use Rattle.item_acts.specs.Tame.{Access, access_of, accesses_of, log_of, HasRace, IsFault}
 use Rattle.item_acts.specs.OneResult.{IsFaultFree, IsWithin}
 use Rattle.item_acts.proofs.Swaps.{same_state, covers_further, in_one_group}
@@ -48,16 +47,16 @@ pub follows_more : (l : Launch) (given : ℕ → ℕ → ℕ) (done : List Tagge
 follows_more l given done x t f may safe leads logged =
     let may' : May l (run l (start given) f.turns) t = subst (λ s. May l s t) (sym f.same) may in
     let log : log_of l (start given) (f.turns ++ t ∷ []) ≡ log_of l (start given) f.turns ++ accesses_of l (whole given done) t =
-      log_append l f.turns t (start given) ∙ ap (λ s. log_of l (start given) f.turns ++ accesses_of l s t) f.same in
+    log_append l f.turns t (start given) ∙ ap (λ s. log_of l (start given) f.turns ++ accesses_of l s t) f.same in
     record {
       turns = f.turns ++ t ∷ [];
       allowed = allowed_append l f.turns (t ∷ []) (start given) f.allowed (may', tt);
       free = free_append f.turns (t ∷ []) f.free (safe, tt);
       same = run_append l f.turns (t ∷ []) (start given) ∙ ap (λ s. after l s t) f.same ∙ leads ∙ sym (whole_more given done x);
       logged = subst (λ more. Each (λ y. IsLogged l more y.event.what) (done ++ x ∷ [])) (sym log)
-        (each_append (λ y. IsLogged l (log_of l (start given) f.turns ++ accesses_of l (whole given done) t) y.event.what) done (x ∷ [])
-        (each_with (λ y h. logged_front l (log_of l (start given) f.turns) (accesses_of l (whole given done) t) y.event.what h) done f.logged)
-        (logged_back l (log_of l (start given) f.turns) (accesses_of l (whole given done) t) x.event.what logged, tt));
+          (each_append (λ y. IsLogged l (log_of l (start given) f.turns ++ accesses_of l (whole given done) t) y.event.what) done (x ∷ [])
+          (each_with (λ y h. logged_front l (log_of l (start given) f.turns) (accesses_of l (whole given done) t) y.event.what h) done f.logged)
+          (logged_back l (log_of l (start given) f.turns) (accesses_of l (whole given done) t) x.event.what logged, tt));
     }
 
 -- what is done within the launch is a turn
@@ -152,13 +151,13 @@ module _ (l : Launch) (given final : ℕ → ℕ → ℕ) (cores : ℕ) (events 
   may_deed done tail x split f item deed did =
       let see = seen done (x ∷ tail) split x.core item did.here in
       let asks : ItemAsks l item ((whole given done).answers item) (action_of deed) =
-        subst (λ answers. ItemAsks l item answers (action_of deed)) see.answers did.asks in
+      subst (λ answers. ItemAsks l item answers (action_of deed)) see.answers did.asks in
       record {
         exists = did.exists;
         going = sym see.standing ∙ did.going;
         asks = asks;
         turn = turn_of l deed (orderly.bounds.within f.turns f.allowed item did.exists (action_of deed)
-          (subst (λ s. ItemAsks l item (s.answers item) (action_of deed)) (sym f.same) asks));
+            (subst (λ s. ItemAsks l item (s.answers item) (action_of deed)) (sym f.same) asks));
       }
 
   -- no other core has stored a byte that is loaded
@@ -171,14 +170,14 @@ module _ (l : Launch) (given final : ℕ → ℕ → ℕ) (cores : ℕ) (events 
       let b = access_of l s item field (bytes_of size) false in
       let log = log_of l (start given) f.turns ++ accesses_of l s t in
       let allowed : Allowed l (start given) (f.turns ++ t ∷ []) =
-        allowed_append l f.turns (t ∷ []) (start given) f.allowed (subst (λ z. MayDo l z item (Load field size)) (sym f.same) may, tt) in
+      allowed_append l f.turns (t ∷ []) (start given) f.allowed (subst (λ z. MayDo l z item (Load field size)) (sym f.same) may, tt) in
       let never : HasRace log → ⊥ =
-        λ race. orderly.tame.no_race (f.turns ++ t ∷ []) allowed (faults_last f.turns t f.free) (subst HasRace (sym (log_append l f.turns t (start given))) race) in
+      λ race. orderly.tame.no_race (f.turns ++ t ∷ []) allowed (faults_last f.turns t f.free) (subst HasRace (sym (log_append l f.turns t (start given))) race) in
       each_both
       (λ y home logged differ.
-        other_stores_not l log known.core_of b byte never (among_back b (log_of l (start given) f.turns) (accesses_of l s t) (inl refl)) refl covered
-        y.event.what y.core home (logged_front l (log_of l (start given) f.turns) (accesses_of l s t) y.event.what logged)
-        (λ e. differ (e ∙ here)))
+      other_stores_not l log known.core_of b byte never (among_back b (log_of l (start given) f.turns) (accesses_of l s t) (inl refl)) refl covered
+      y.event.what y.core home (logged_front l (log_of l (start given) f.turns) (accesses_of l s t) y.event.what logged)
+      (λ e. differ (e ∙ here)))
       done (home_front done (x ∷ tail) split) f.logged
 
   -- so each of its bytes is clear

@@ -1,6 +1,6 @@
 -- One order of the events of all cores: a core's events are put in one by one, each before the first event that has no
 -- lesser place.
-use Rattle.std.proofs.Common.{◌≡◌, ◌≢◌, ℕ, zero, suc, ◌<◌, ◌≤◌, Bool, true, false, cond, nat_eq, nat_le, List, [], ◌∷◌, ◌++◌, if◌then◌else◌, refl, ap, sym, ◌∙◌, subst, inl, inr, arith, eq-eqb, ne_eqb, leb-true, leb-false}
+use Rattle.std.proofs.Common.{◌≡◌, ◌≢◌, ℕ, zero, suc, ◌<◌, ◌≤◌, cond, nat_eq, nat_le, List, [], ◌∷◌, ◌++◌, if◌then◌else◌, refl, ap, sym, ◌∙◌, subst, inl, inr, arith, eq-eqb, ne_eqb, leb-true, leb-false}
 use Rattle.std.proofs.lemmas.Bool.{cases_eq, cond-true, cond-false, cond_both}
 use Rattle.launch_order.specs.Events.{Event, NeverFall}
 
@@ -117,11 +117,11 @@ sorted_put_in x [] sorted = (tt, tt)
 sorted_put_in x (y ∷ ys) sorted =
     cond_both (nat_le x.event.place y.event.place) (x ∷ y ∷ ys) (y ∷ put_in x ys) Sorted
     (λ e.
-      let le : x.event.place ≤ y.event.place = leb-true x.event.place y.event.place e in
-      ((le, each_with (λ z le'. omega (arith, le, le')) ys sorted.0), sorted))
+    let le : x.event.place ≤ y.event.place = leb-true x.event.place y.event.place e in
+    ((le, each_with (λ z le'. omega (arith, le, le')) ys sorted.0), sorted))
     (λ e.
-      let lt : y.event.place < x.event.place = leb-false x.event.place y.event.place e in
-      (each_put_in (λ z. y.event.place ≤ z.event.place) x ys (omega (arith, lt)) sorted.0, sorted_put_in x ys sorted.1))
+    let lt : y.event.place < x.event.place = leb-false x.event.place y.event.place e in
+    (each_put_in (λ z. y.event.place ≤ z.event.place) x ys (omega (arith, lt)) sorted.0, sorted_put_in x ys sorted.1))
 
 sorted_with_core : (core : ℕ) (events : List Event) (xs : List Tagged) → Sorted xs → Sorted (with_core core events xs)
 sorted_with_core core [] xs sorted = sorted
@@ -171,9 +171,9 @@ project_put_in_own x (y ∷ ys) each =
     cond_both (nat_le x.event.place y.event.place) (x ∷ y ∷ ys) (y ∷ put_in x ys) (λ zs. project x.core zs ≡ x.event ∷ project x.core (y ∷ ys))
     (λ _. project_here x.core x (y ∷ ys) refl)
     (λ e.
-      let lt : y.event.place < x.event.place = leb-false x.event.place y.event.place e in
-      let differ : y.core ≢ x.core = λ same. let le : x.event.place ≤ y.event.place = each.0 same in omega (arith, lt, le) in
-      project_past x.core y (put_in x ys) differ ∙ project_put_in_own x ys each.1 ∙ ap (λ zs. x.event ∷ zs) (sym (project_past x.core y ys differ)))
+    let lt : y.event.place < x.event.place = leb-false x.event.place y.event.place e in
+    let differ : y.core ≢ x.core = λ same. let le : x.event.place ≤ y.event.place = each.0 same in omega (arith, lt, le) in
+    project_past x.core y (put_in x ys) differ ∙ project_put_in_own x ys each.1 ∙ ap (λ zs. x.event ∷ zs) (sym (project_past x.core y ys differ)))
 
 project_with_core_other : (core other : ℕ) (events : List Event) (xs : List Tagged) → other ≢ core → project core (with_core other events xs) ≡ project core xs
 project_with_core_other core other [] xs differ = refl

@@ -8,7 +8,7 @@ use Rattle.item_acts.specs.declared.acts.Place.{Place}
 use Rattle.item_acts.specs.declared.acts.Place.TheVariants.{Global, Local}
 use Rattle.item_acts.specs.declared.acts.Action.TheVariants.{Store}
 use Rattle.item_acts.specs.Launches.{Launch, group_of, State, covers, byte_at, IsInside}
-use Rattle.launch_order.specs.Events.{Loaded, Stored, Did, Event, led, stores}
+use Rattle.launch_order.specs.Events.{Loaded, Stored, Did, Event, led}
 use Rattle.launch_order.specs.Cores.{StoresFrom, StoreNot}
 use Rattle.launch_order.specs.Moves.{Cell, Shared, Scratch, Move, Reads, Writes, Leaves, Frees, Moved, address_of, spans, writes_to, written, left_by, mover, moves_of, Held, Byte, NoByte, event_if, events_in, events_of, IsGlobal, IsLocalOf, SeeOne, IsMap, KeepsToArrays, WritesFrom, WriteNot, IsSafe}
 use Rattle.launch_order.proofs.Seen.{led_append}
@@ -75,14 +75,14 @@ step_same l holds address map place (Writes item cell size n) (inr (p, here, ins
     let f : Place → Event = λ p. record { place = place; what = Did item (Stored p size n) } in
     let exact : covers p (bytes_of size) q ≡ spans cell (bytes_of size) c = map.exact item other cell c p q (bytes_of size) here inside is (see item refl) in
     let stored : cond (spans cell (bytes_of size) c) (byte_of n (address_of c - address_of cell)) (bytes c)
-      ≡ cond (covers p (bytes_of size) q) (byte_of n (byte_at q - byte_at p)) (s.bytes q) =
-      elim (cases_Bool (spans cell (bytes_of size) c)) [
-        | inl e ↦
-            cond-true _ _ _ e
-            ∙ ap (byte_of n) (sym (map.along item other cell c p q (bytes_of size) here inside is (see item refl) e))
-            ∙ sym (cond-true _ _ _ (exact ∙ e))
-        | inr e ↦ cond-false _ _ _ e ∙ same ∙ sym (cond-false _ _ _ (exact ∙ e))
-      ] in
+    ≡ cond (covers p (bytes_of size) q) (byte_of n (byte_at q - byte_at p)) (s.bytes q) =
+    elim (cases_Bool (spans cell (bytes_of size) c)) [
+      | inl e ↦
+          cond-true _ _ _ e
+          ∙ ap (byte_of n) (sym (map.along item other cell c p q (bytes_of size) here inside is (see item refl) e))
+          ∙ sym (cond-true _ _ _ (exact ∙ e))
+      | inr e ↦ cond-false _ _ _ e ∙ same ∙ sym (cond-false _ _ _ (exact ∙ e))
+    ] in
     stored ∙ sym (ap (λ h. (led s (event_if h f)).bytes q) here)
 step_same l holds address map place (Leaves item) placed bytes s other c q is see same = same
 step_same l holds address map place (Frees group stood) placed bytes s other c q is see same = same
@@ -138,17 +138,17 @@ left_scratch l holds address map (m ∷ moves) placed bytes s other a q is same 
     let own = group_of l other in
     let t = led s (events_in holds m.place m.what) in
     let joined : (led t (events_of holds moves)).bytes q ≡ (led s (events_of holds (m ∷ moves))).bytes q =
-      sym (ap (λ z. z.bytes q) (led_append s (events_in holds m.place m.what) (events_of holds moves))) in
+    sym (ap (λ z. z.bytes q) (led_append s (events_in holds m.place m.what) (events_of holds moves))) in
     elim (cases_eq (mover l m.what) own) [
       | inl e ↦
           ap (λ zs. left_by bytes zs (Scratch a)) (cond-true (nat_eq (mover l m.what) own) (m ∷ moves_of l own moves) (moves_of l own moves) (eq-eqb (mover l m.what) own e))
           ∙ left_scratch l holds address map moves placed.1 (written bytes m.what) t other a q is
-            (step_same l holds address map m.place m.what placed.0 bytes s other (Scratch a) q is (λ item of_item. of_item ∙ e) same)
+          (step_same l holds address map m.place m.what placed.0 bytes s other (Scratch a) q is (λ item of_item. of_item ∙ e) same)
           ∙ joined
       | inr differ ↦
           ap (λ zs. left_by bytes zs (Scratch a)) (cond-false (nat_eq (mover l m.what) own) (m ∷ moves_of l own moves) (moves_of l own moves) (ne_eqb (mover l m.what) own differ))
           ∙ left_scratch l holds address map moves placed.1 bytes t other a q is
-            (same ∙ step_other l holds address map m.place m.what placed.0 s own q (map.scratch_is other a q is) differ)
+          (same ∙ step_other l holds address map m.place m.what placed.0 s own q (map.scratch_is other a q is) differ)
           ∙ joined
     ]
 

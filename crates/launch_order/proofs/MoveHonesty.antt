@@ -1,9 +1,8 @@
 -- Constant buffers are read honestly and every move is safe: by induction on places, where a move is looked at once all moves
 -- before it on its core and all moves of lesser place on other cores are safe.
-use Rattle.std.proofs.Common.{◌≡◌, ◌≢◌, ℕ, zero, suc, ◌+◌, ◌<◌, ◌≤◌, ◌⊎◌, Bool, true, false, List, [], ◌∷◌, ◌++◌, refl, ap, sym, ◌∙◌, subst, inl, inr, arith, append_assoc, append-nil}
-use Rattle.std.proofs.lemmas.Bool.{true≢false, cases_lt, cases_eq, cond-false, false_from_ne_true}
+use Rattle.std.proofs.Common.{◌≡◌, ◌≢◌, ℕ, zero, suc, ◌+◌, ◌<◌, ◌≤◌, Bool, true, false, List, [], ◌∷◌, ◌++◌, refl, ap, sym, ◌∙◌, subst, inl, inr, arith, append_assoc, append-nil}
+use Rattle.std.proofs.lemmas.Bool.{true≢false, cases_lt, cond-false, false_from_ne_true}
 use Rattle.vx_base.specs.Bytes.{bytes_of, byte_of}
-use Rattle.vx_base.specs.declared.types.Pos.{Pos}
 use Rattle.vx_base.specs.declared.types.Size.{Size}
 use Rattle.vx_base.proofs.NumberLaws.{number_of-same, number_of-whole}
 use Rattle.item_acts.specs.declared.acts.Place.{Place}
@@ -11,9 +10,9 @@ use Rattle.item_acts.specs.declared.acts.Place.TheVariants.{Global, Local}
 use Rattle.item_acts.specs.declared.acts.Action.TheVariants.{Load, Store}
 use Rattle.item_acts.specs.Launches.{Launch, ItemAsks, State, opening_bytes, further, covers, field_at, IsInside}
 use Rattle.item_acts.proofs.Launches.{covers_within}
-use Rattle.launch_order.specs.Events.{CoreEnd, AtFault, Stuck}
+use Rattle.launch_order.specs.Events.{CoreEnd}
 use Rattle.launch_order.specs.Cores.{CoreEvents}
-use Rattle.launch_order.specs.Moves.{Cell, Shared, Scratch, Move, Reads, Writes, Leaves, Frees, Moved, spans, writes_to, written, left_by, Held, Byte, NoByte, core_events, IsGlobal, IsLocalOf, IsMap, KeepsToArrays, MovesNeverFall, WritesFrom, Comes, opening_cells, KeepsBytes, IsSafe, seen_of, Along, is_constant, IsHonest, AreHonest, GoesAlong}
+use Rattle.launch_order.specs.Moves.{Cell, Shared, Scratch, Move, Reads, Writes, Leaves, Frees, Moved, writes_to, written, left_by, Held, Byte, NoByte, core_events, IsLocalOf, IsMap, KeepsToArrays, MovesNeverFall, WritesFrom, opening_cells, KeepsBytes, IsSafe, seen_of, Along, is_constant, IsHonest, AreHonest, GoesAlong}
 use Rattle.launch_order.proofs.MoveBytes.{aside_not}
 use Rattle.launch_order.proofs.MoveEvents.{along_at, global_given, moves_known}
 
@@ -96,7 +95,7 @@ safe_not_written l holds address map constant keeps core_of core own (Writes ite
 safe_not_written l holds address map constant keeps core_of core own (Writes item cell size n) (inr (p, here, asks)) other a q is const =
     let inside : IsInside l p (bytes_of size) = keeps.within item (own.answers item) (Store p size n) asks.exists asks.asks in
     false_from_ne_true _ (λ e. stores_no_constant l constant keeps item (own.answers item) p q size n asks.exists asks.asks const
-      (map.exact item other cell (Shared a) p q (bytes_of size) here inside is tt ∙ e))
+    (map.exact item other cell (Shared a) p q (bytes_of size) here inside is tt ∙ e))
 safe_not_written l holds address map constant keeps core_of core own (Leaves item) safe other a q is const = refl
 safe_not_written l holds address map constant keeps core_of core own (Frees group stood) safe other a q is const = refl
 
@@ -117,7 +116,7 @@ module _ (Knows : ℕ → List Moved → Moved → Type 0) (l : Launch) (holds :
     λ e. elim (cases_lt m.place place) [
       | inl lt ↦
           absurd (true≢false (sym e ∙ safe_not_written l holds address map constant keeps core_of other (seen_of holds given front) m.what
-            (earlier other below differ front m rest split lt) item a q is const))
+          (earlier other below differ front m rest split lt) item a q is const))
       | inr le ↦ le
     ],
     clear_rest core place earlier other below differ item a q is const (front ++ m ∷ []) rest (split ∙ sym (append_assoc front (m ∷ []) rest)),
@@ -131,7 +130,7 @@ module _ (Knows : ℕ → List Moved → Moved → Type 0) (l : Launch) (holds :
   unwritten core below item a q is const front (m ∷ rest) more split along cells =
       unwritten core below item a q is const (front ++ m ∷ []) rest more (split ∙ sym (append_assoc front (m ∷ []) (rest ++ more))) along.1 (written cells m.what)
       ∙ written_same cells m.what (Shared a) (safe_not_written l holds address map constant keeps core_of core (seen_of holds given front) m.what
-        (goes.safe core below front m (rest ++ more, split) along.0) item a q is const)
+      (goes.safe core below front m (rest ++ more, split) along.0) item a q is const)
 
   -- a read of a constant buffer is honest
   honest_read : (core : ℕ) → core < cores → (before : List Moved) (m : Moved) (behind : List Moved) → moves core ≡ before ++ m ∷ behind → Along (Knows core) [] before
@@ -143,12 +142,12 @@ module _ (Knows : ℕ → List Moved → Moved → Type 0) (l : Launch) (holds :
       sym (number_of-whole n (bytes_of size) (bytes.fits core below before m (behind, split) item (Shared a) size n what))
       ∙ number_of-same (byte_of n) (λ k. opening_bytes given (further p k)) (bytes_of size)
       (λ k small.
-        let there : holds item (Shared (a + k)) ≡ Byte (further p k) = map.names item (Shared a) p (bytes_of size) k is inside small in
-        let const' : is_constant constant (further p k) ≡ true = further_constant constant p k ∙ const in
-        bytes.shared core below before m (behind, split) item a size n k what small
-        (λ other below' differ. clear_rest core m.place earlier other below' differ item (a + k) (further p k) there const' [] (moves other) refl)
-        ∙ unwritten core below item (a + k) (further p k) there const' [] before (m ∷ behind) split along (opening_cells opening)
-        ∙ global_given l holds given opening bytes.opens item (a + k) (further p k) (map.shared_is item (a + k) (further p k) there) there)
+      let there : holds item (Shared (a + k)) ≡ Byte (further p k) = map.names item (Shared a) p (bytes_of size) k is inside small in
+      let const' : is_constant constant (further p k) ≡ true = further_constant constant p k ∙ const in
+      bytes.shared core below before m (behind, split) item a size n k what small
+      (λ other below' differ. clear_rest core m.place earlier other below' differ item (a + k) (further p k) there const' [] (moves other) refl)
+      ∙ unwritten core below item (a + k) (further p k) there const' [] before (m ∷ behind) split along (opening_cells opening)
+      ∙ global_given l holds given opening bytes.opens item (a + k) (further p k) (map.shared_is item (a + k) (further p k) there) there)
 
   honest_of : (core : ℕ) → core < cores → (before : List Moved) (m : Moved) (behind : List Moved) → moves core ≡ before ++ m ∷ behind → Along (Knows core) [] before
       → EarlierSafe core m.place → (what : Move) → m.what ≡ what → IsSafe l holds core_of core (seen_of holds given before) what → IsHonest holds constant given what
@@ -156,10 +155,10 @@ module _ (Knows : ℕ → List Moved → Moved → Type 0) (l : Launch) (holds :
       λ p is const. let clash : NoByte ≡ Byte p = sym none ∙ is in absurd (cc)
   honest_of core below before m behind split along earlier (Reads item cell size n) what (inr (p, here, asks)) =
       λ q is const.
-        let both : Byte p ≡ Byte q = sym here ∙ is in
-        let same : p ≡ q = cc in
-        let inside : IsInside l p (bytes_of size) = keeps.within item ((seen_of holds given before).answers item) (Load p size) asks.exists asks.asks in
-        honest_read core below before m behind split along earlier item cell size n what q is (subst (λ z. IsInside l z (bytes_of size)) same inside) const
+      let both : Byte p ≡ Byte q = sym here ∙ is in
+      let same : p ≡ q = cc in
+      let inside : IsInside l p (bytes_of size) = keeps.within item ((seen_of holds given before).answers item) (Load p size) asks.exists asks.asks in
+      honest_read core below before m behind split along earlier item cell size n what q is (subst (λ z. IsInside l z (bytes_of size)) same inside) const
   honest_of core below before m behind split along earlier (Writes item cell size n) what safe = tt
   honest_of core below before m behind split along earlier (Leaves item) what safe = tt
   honest_of core below before m behind split along earlier (Frees group stood) what safe = tt
@@ -174,7 +173,7 @@ module _ (Knows : ℕ → List Moved → Moved → Type 0) (l : Launch) (holds :
       let knows : Knows core front m = goes.known core below front m (rest ++ behind, split) honest along in
       let safe = goes.safe core below front m (rest ++ behind, split) knows in
       let here : IsHonest holds constant given m.what =
-        honest_of core below front m (rest ++ behind) split along (earlier m.place low.0) m.what refl safe in
+      honest_of core below front m (rest ++ behind) split along (earlier m.place low.0) m.what refl safe in
       subst (λ zs. AreHonest holds constant given zs × Along (Knows core) [] zs) (append_assoc front (m ∷ []) rest)
       (walk core below bound earlier (front ++ m ∷ []) rest behind (split ∙ sym (append_assoc front (m ∷ []) (rest ++ behind))) low.1
       (honest_more holds constant given front m honest here) (along_more (Knows core) [] front m along knows))
@@ -187,10 +186,10 @@ module _ (Knows : ℕ → List Moved → Moved → Type 0) (l : Launch) (holds :
   by_places (suc bound) core below before behind split low =
       walk core below bound
       (λ place small other below' differ front m rest split' lt.
-        let rising : MovesNeverFall 0 (front ++ m ∷ rest) = subst (MovesNeverFall 0) split' (bytes.rising other below') in
-        let known = by_places bound other below' (front ++ m ∷ []) rest (split' ∙ sym (append_assoc front (m ∷ []) rest))
-          (below_up_to 0 bound front m rest rising (omega (arith, small, lt))) in
-        goes.safe other below' front m (rest, split') (along_at (Knows other) [] (front ++ m ∷ []) front m [] known.1 refl))
+      let rising : MovesNeverFall 0 (front ++ m ∷ rest) = subst (MovesNeverFall 0) split' (bytes.rising other below') in
+      let known = by_places bound other below' (front ++ m ∷ []) rest (split' ∙ sym (append_assoc front (m ∷ []) rest))
+      (below_up_to 0 bound front m rest rising (omega (arith, small, lt))) in
+      goes.safe other below' front m (rest, split') (along_at (Knows other) [] (front ++ m ∷ []) front m [] known.1 refl))
       [] before behind split low tt tt
 
   all_known : (core : ℕ) → core < cores → AreHonest holds constant given (moves core) × Along (Knows core) [] (moves core)
@@ -203,9 +202,10 @@ module _ (Knows : ℕ → List Moved → Moved → Type 0) (l : Launch) (holds :
   safe_rest : (core : ℕ) → core < cores → (front rest : List Moved) → moves core ≡ front ++ rest → Along (Knows core) front rest
       → Along (λ before m. IsSafe l holds core_of core (seen_of holds given before) m.what) front rest
   safe_rest core below front [] split along = tt
-  safe_rest core below front (m ∷ rest) split along =
-      (goes.safe core below front m (rest, split) along.0,
-      safe_rest core below (front ++ m ∷ []) rest (split ∙ sym (append_assoc front (m ∷ []) rest)) along.1)
+  safe_rest core below front (m ∷ rest) split along = (
+    goes.safe core below front m (rest, split) along.0,
+    safe_rest core below (front ++ m ∷ []) rest (split ∙ sym (append_assoc front (m ∷ []) rest)) along.1,
+  )
 
   -- each move is safe
   pub all_moves_safe : (core : ℕ) → core < cores → Along (λ before m. IsSafe l holds core_of core (seen_of holds given before) m.what) [] (moves core)

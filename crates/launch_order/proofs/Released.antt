@@ -1,7 +1,7 @@
 -- A group that a core has released may pass: no item was left out, and all wait at one point.
-use Rattle.std.proofs.Common.{◌≡◌, ◌≢◌, ℕ, ◌*◌, ◌<◌, ◌⊎◌, Bool, true, false, cond, nat_eq, nat_lt, List, [], ◌∷◌, ◌++◌, refl, ap, sym, ◌∙◌, subst, inl, inr, append_assoc, append-nil, ltb-true}
+use Rattle.std.proofs.Common.{◌≡◌, ◌≢◌, ℕ, ◌*◌, ◌<◌, Bool, cond, nat_eq, nat_lt, List, [], ◌∷◌, ◌++◌, refl, ap, sym, ◌∙◌, subst, inl, inr, append_assoc, append-nil, ltb-true}
 use Rattle.std.proofs.Math.Path.{fun_ext}
-use Rattle.std.proofs.lemmas.Bool.{cases_eq, cases_Bool, and_parts, false_from_ne_true, both_ways}
+use Rattle.std.proofs.lemmas.Bool.{cases_Bool, and_parts, false_from_ne_true, both_ways}
 use Rattle.vx_base.specs.declared.types.Pos.{Pos}
 use Rattle.item_acts.specs.declared.acts.Point.{Point}
 use Rattle.item_acts.specs.declared.acts.Action.{Action}
@@ -10,14 +10,13 @@ use Rattle.item_acts.specs.Launches.{Launch, ItemAsks, group_of, is_in_group, St
 use Rattle.item_acts.specs.Tame.{NeverPasses, IsApart, IsFault, accesses_of}
 use Rattle.item_acts.specs.OneResult.{IsFaultFree, alone, HasStopped}
 use Rattle.item_acts.proofs.Launches.{put_at_same}
-use Rattle.item_acts.proofs.Swaps.{same_state, still_waits, first_in_group, in_one_group, in_own_group}
+use Rattle.item_acts.proofs.Swaps.{same_state, still_waits, first_in_group, in_one_group}
 use Rattle.item_acts.proofs.Fronts.{stopped_stays}
 use Rattle.item_acts.proofs.Schedules.{drive, cases_point}
-use Rattle.launch_order.specs.Events.{Happening, Released, Event, CoreEnd, happened}
-use Rattle.launch_order.specs.Cores.{NeverAgain, StoodAt, LeftOut, GroupReleased, CoreEvents}
+use Rattle.launch_order.specs.Events.{Released, Event, CoreEnd, happened}
+use Rattle.launch_order.specs.Cores.{StoodAt, LeftOut, GroupReleased, CoreEvents}
 use Rattle.launch_order.specs.Lists.{IsOrderlyWithin}
 use Rattle.launch_order.proofs.Merged.{Tagged, merged}
-use Rattle.launch_order.proofs.Seen.{SameItem}
 use Rattle.launch_order.proofs.Logged.{run_append, allowed_append, free_append, free_faults, IsLogged}
 use Rattle.launch_order.proofs.Following.{whole, own, Follows, follows_more, seen}
 
@@ -93,17 +92,17 @@ module _ (l : Launch) (given final : ℕ → ℕ → ℕ) (cores : ℕ) (events 
       let see = seen l given final cores events ends known n orderly done tail split core item here in
       let there : known.core_of (group_of l left.other) ≡ core = ap known.core_of left.together ∙ here in
       let waits : Waits l s left.other left.point =
-        subst (λ z. Waits l z left.other left.point) (sym f.same) (waits_whole done tail split core left.other there left.point left.waits) in
+      subst (λ z. Waits l z left.other left.point) (sym f.same) (waits_whole done tail split core left.other there left.point left.waits) in
       let differ : left.other ≢ item =
-        λ e. left.never [] (subst (λ answers. ItemAsks l item answers (Barrier left.point)) (sym (append-nil ((own given core done).answers item)))
-          (subst (λ k. ItemAsks l k ((own given core done).answers k) (Barrier left.point)) e left.waits.asks)) in
+      λ e. left.never [] (subst (λ answers. ItemAsks l item answers (Barrier left.point)) (sym (append-nil ((own given core done).answers item)))
+      (subst (λ k. ItemAsks l k ((own given core done).answers k) (Barrier left.point)) e left.waits.asks)) in
       let stop = drive l given n orderly.tame orderly.bounds f.turns f.allowed f.free item exists in
       let s' = run l s (alone item stop.actions) in
       let more = answers_alone l item stop.actions s in
       let told : (own given core done).answers item ++ more.0 ≡ s'.answers item =
-        ap (λ z. z ++ more.0) (see.answers ∙ sym (ap (λ z. z.answers item) f.same)) ∙ sym more.1 in
+      ap (λ z. z ++ more.0) (see.answers ∙ sym (ap (λ z. z.answers item) f.same)) ∙ sym more.1 in
       let not : Waits l s' item left.point → ⊥ =
-        λ w. left.never more.0 (subst (λ answers. ItemAsks l item answers (Barrier left.point)) (sym told) w.asks) in
+      λ w. left.never more.0 (subst (λ answers. ItemAsks l item answers (Barrier left.point)) (sym told) w.asks) in
       let apart : IsApart l s' = record {
         waiting = left.other;
         other = item;
@@ -171,13 +170,13 @@ module _ (l : Launch) (given final : ℕ → ℕ → ℕ) (cores : ℕ) (events 
       let may : MayPass l (whole given done) group one.point = record {
         exists = released.exists;
         waits = λ k exists e.
-          let other = each_stood done (x ∷ tail) split f x.core group stood released k exists e in
-          let other_waits = waits_whole done (x ∷ tail) split x.core k (here k e) other.point other.waits in
-          subst (Waits l (whole given done) k)
-          (at_one_point done f first k released.exists exists (first_group ∙ sym e) one.point other.point one_waits other_waits) other_waits;
+            let other = each_stood done (x ∷ tail) split f x.core group stood released k exists e in
+            let other_waits = waits_whole done (x ∷ tail) split x.core k (here k e) other.point other.waits in
+            subst (Waits l (whole given done) k)
+            (at_one_point done f first k released.exists exists (first_group ∙ sym e) one.point other.point one_waits other_waits) other_waits;
       } in
       let s = whole given done in
       let leads : after l s (Passes group one.point) ≡ happened s (Released group stood) =
-        same_state refl (fun_ext (λ k. ap (λ b. cond b (s.answers k ++ 0 ∷ []) (s.answers k)) (all_stood done (x ∷ tail) split f x.core group stood released k))) refl refl in
+      same_state refl (fun_ext (λ k. ap (λ b. cond b (s.answers k ++ 0 ∷ []) (s.answers k)) (all_stood done (x ∷ tail) split f x.core group stood released k))) refl refl in
       follows_more l given done x (Passes group one.point) f may (λ fault. fault) (leads ∙ ap (happened s) (sym is))
       (subst (IsLogged l (accesses_of l s (Passes group one.point))) (sym is) tt)

@@ -1,12 +1,12 @@
 -- What a core has seen of its own items and of the bytes that no other core stores is what all cores together have made of
 -- them.
-use Rattle.std.proofs.Common.{◌≡◌, ◌≢◌, ℕ, ◌-◌, ◌≤◌, Bool, true, false, cond, nat_eq, List, [], ◌∷◌, ◌++◌, refl, ap, sym, ◌∙◌, subst, inl, inr}
+use Rattle.std.proofs.Common.{◌≡◌, ◌≢◌, ℕ, ◌-◌, true, false, cond, nat_eq, List, [], ◌∷◌, ◌++◌, refl, ap, sym, ◌∙◌, subst, inl, inr}
 use Rattle.std.proofs.lemmas.Bool.{cases_eq, cond-false, false_from_ne_true}
 use Rattle.vx_base.specs.Bytes.{bytes_of, byte_of}
 use Rattle.item_acts.specs.declared.acts.Place.{Place}
-use Rattle.item_acts.specs.Launches.{Launch, group_of, State, covers, byte_at, put_at, standing_after}
+use Rattle.item_acts.specs.Launches.{Launch, group_of, State, covers, byte_at, standing_after}
 use Rattle.item_acts.proofs.Launches.{put_at_other}
-use Rattle.launch_order.specs.Events.{Deed, Loaded, Stored, Finished, action_of, answers_of, Happening, Did, Released, Event, happened, led, stores}
+use Rattle.launch_order.specs.Events.{Loaded, Stored, Finished, action_of, answers_of, Happening, Did, Released, Event, happened, led, stores}
 use Rattle.launch_order.specs.Cores.{StoresFrom}
 use Rattle.launch_order.proofs.Merged.{Tagged, project, untagged, Each, project_here, project_past}
 

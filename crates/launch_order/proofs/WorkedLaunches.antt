@@ -1,5 +1,5 @@
 -- The premises of the laws are met by small launches.
-use Rattle.std.proofs.Common.{◌≡◌, ◌≢◌, ℕ, zero, suc, ◌<◌, ◌≤◌, List, [], ◌∷◌, ◌++◌, slice_index, refl, subst, subst₂, inl, arith, lit<, lit≤, ne_eqb}
+use Rattle.std.proofs.Common.{◌≡◌, ℕ, zero, suc, ◌<◌, ◌≤◌, List, [], ◌∷◌, ◌++◌, slice_index, refl, subst, subst₂, inl, arith, lit<, lit≤, ne_eqb}
 use Rattle.std.proofs.lemmas.Bool.{true≢false, cond-false}
 use Rattle.vx_base.specs.declared.types.Pos.{Pos}
 use Rattle.vx_base.specs.declared.types.Size.TheVariants.{One}
@@ -130,7 +130,7 @@ handed_known = record {
   some = lit< tt;
   rising = handed_rising;
   sound = λ core below before behind e is.
-    sound_along handed 2 handed_events (λ group. group) core (handed_events core) before behind e (start fives) (handed_sound core below) is;
+      sound_along handed 2 handed_events (λ group. group) core (handed_events core) before behind e (start fives) (handed_sound core below) is;
   final_own = handed_final;
   final_outside = handed_outside;
   finished = λ done item exists. handed_ended item exists;
@@ -179,7 +179,7 @@ halted_known = record {
   some = lit< tt;
   rising = halted_rising;
   sound = λ core below before behind e is.
-    sound_along halted 1 halted_events (λ group. 0) core (halted_events core) before behind e (start fives) (halted_sound core below) is;
+      sound_along halted 1 halted_events (λ group. 0) core (halted_events core) before behind e (start fives) (halted_sound core below) is;
   final_own = λ core below buffer byte inside alone. first_final 7 seven_first halted_four buffer byte inside;
   final_outside = halted_outside;
   finished = λ done item exists. let e = done 0 (lit< tt) in absurd (cc);
@@ -228,7 +228,7 @@ stuck_known = record {
   some = lit< tt;
   rising = stuck_rising;
   sound = λ core below before behind e is.
-    sound_along (one_waits 2) 1 stuck_events (λ group. 0) core (stuck_events core) before behind e (start fives) (stuck_sound core below) is;
+      sound_along (one_waits 2) 1 stuck_events (λ group. 0) core (stuck_events core) before behind e (start fives) (stuck_sound core below) is;
   final_own = λ core below buffer byte inside alone. first_final 4 four_first stuck_four buffer byte inside;
   final_outside = stuck_outside;
   finished = λ done item exists. let e = done 0 (lit< tt) in absurd (cc);
@@ -239,8 +239,7 @@ stuck_known = record {
 -- that launch is not tame: its items do not meet
 pub stuck_untame : IsTame (one_waits 2) fives → ⊥
 stuck_untame (n, tame) =
-    tame.meets (Does 1 (stores 0 4) ∷ Does 1 End ∷ [])
-    (
+    tame.meets (Does 1 (stores 0 4) ∷ Does 1 End ∷ []) (
       record { exists = lit< tt; going = refl; asks = record { steps = 0; asked = refl }; turn = lit≤ tt },
       (record { exists = lit< tt; going = refl; asks = record { steps = 0; asked = refl }; turn = tt }, tt),
     )
