@@ -1,27 +1,25 @@
 -- What follows for the ends of a launch: each front of the one order is followed by turns, and so is the whole of it.
-use Rattle.std.proofs.Common.{◌≡◌, ◌≢◌, ℕ, zero, ◌+◌, ◌<◌, ◌≤◌, ◌⊎◌, Bool, true, false, List, [], ◌∷◌, ◌++◌, slice_index, refl, ap, sym, ◌∙◌, subst, subst₂, inl, inr, arith, append_assoc, append-nil}
+use Rattle.std.proofs.Common.{◌≡◌, ◌≢◌, ℕ, ◌+◌, ◌<◌, ◌≤◌, ◌⊎◌, true, false, List, [], ◌∷◌, ◌++◌, slice_index, refl, ap, sym, ◌∙◌, subst, subst₂, inl, inr, arith, append_assoc, append-nil}
 use Rattle.std.proofs.lemmas.Bool.{cases_eq, cases_lt, cases_Bool, cond-false, false_from_ne_true, true≢false}
 use Rattle.vx_base.specs.Bytes.{bytes_of}
 use Rattle.vx_base.specs.declared.types.Pos.{Pos}
-use Rattle.vx_base.specs.declared.types.Size.{Size}
 use Rattle.item_acts.specs.declared.acts.Place.{Place}
 use Rattle.item_acts.specs.declared.acts.Place.TheVariants.{Global, Local}
-use Rattle.item_acts.specs.declared.acts.Action.{Action}
 use Rattle.item_acts.specs.declared.acts.Action.TheVariants.{Load, Store, Barrier, Fault, End}
-use Rattle.item_acts.specs.Launches.{Launch, ItemAsks, group_of, State, Going, Ended, start, covers, Turn, Does, Passes, after, IsInside, MayDo, Waits, Allowed, run, IsComplete}
+use Rattle.item_acts.specs.Launches.{Launch, ItemAsks, group_of, State, start, covers, Turn, Does, Passes, after, IsInside, MayDo, Waits, Allowed, run, IsComplete}
 use Rattle.item_acts.specs.declared.acts.Asked.TheVariants.{Act}
 use Rattle.item_acts.specs.declared.acts.Point.{Point}
-use Rattle.item_acts.specs.Tame.{Access, log_of, HasRace, NeverPasses, IsApart, LaunchLeaves}
+use Rattle.item_acts.specs.Tame.{Access, log_of, HasRace, NeverPasses, LaunchLeaves}
 use Rattle.item_acts.proofs.Launches.{covers_within}
 use Rattle.item_acts.proofs.Schedules.{complete_leaves}
 use Rattle.launch_order.specs.Events.{Loaded, Stored, Finished, Happening, Did, Released, Event, CoreEnd, AllDone, AtFault, Stuck, led, stores}
-use Rattle.launch_order.specs.Cores.{StoreNot, IsUnshared, IsSound, CoreEvents}
+use Rattle.launch_order.specs.Cores.{StoreNot, IsSound, CoreEvents}
 use Rattle.launch_order.specs.Lists.{IsOrderlyWithin, FaultComes, IsReached}
-use Rattle.launch_order.proofs.Merged.{Tagged, project, untagged, Each, each_with, each_both, project_here, project_past, merged, project_merged}
+use Rattle.launch_order.proofs.Merged.{Tagged, project, Each, each_with, each_both, project_here, project_past, merged, project_merged}
 use Rattle.launch_order.proofs.Seen.{Moves, IsHome, SameItem, seen_byte}
 use Rattle.launch_order.proofs.Logged.{allowed_append, free_faults, Among, IsLogged}
-use Rattle.launch_order.proofs.Following.{whole, own, Follows, follows_none, other_stores_not, home_all, below_all, sound_at, seen, add_deed}
-use Rattle.launch_order.proofs.Released.{none_apart, waits_whole, add_release}
+use Rattle.launch_order.proofs.Following.{own, Follows, follows_none, other_stores_not, home_all, below_all, sound_at, seen, add_deed}
+use Rattle.launch_order.proofs.Released.{none_apart, add_release}
 
 -- a front of some events with these of one core
 record FrontOf (core : ℕ) (xs : List Tagged) (before : List Event) : Type 0 where

@@ -1,13 +1,12 @@
 -- Behind each front of the one order, some turns without a fault lead to what its events have led to.
-use Rattle.std.proofs.Common.{◌≡◌, ◌≢◌, ℕ, zero, suc, ◌<◌, ◌≤◌, Bool, true, false, List, [], ◌∷◌, ◌++◌, refl, ap, sym, ◌∙◌, subst, inl, append_assoc}
+use Rattle.std.proofs.Common.{◌≡◌, ◌≢◌, ℕ, ◌<◌, ◌≤◌, true, false, List, [], ◌∷◌, ◌++◌, refl, ap, sym, ◌∙◌, subst, inl, append_assoc}
 use Rattle.std.proofs.lemmas.Bool.{true≢false, false_from_ne_true}
 use Rattle.vx_base.specs.Bytes.{bytes_of}
 use Rattle.vx_base.specs.declared.types.Size.{Size}
 use Rattle.vx_base.proofs.NumberLaws.{number_of-same}
 use Rattle.item_acts.specs.declared.acts.Place.{Place}
-use Rattle.item_acts.specs.declared.acts.Action.{Action}
-use Rattle.item_acts.specs.declared.acts.Action.TheVariants.{Load, Store, End}
-use Rattle.item_acts.specs.Launches.{Launch, ItemAsks, group_of, State, Going, start, further, covers, field_at, put_at, answers_to, Turn, Does, after, IsTurn, MayDo, May, Allowed, run}
+use Rattle.item_acts.specs.declared.acts.Action.TheVariants.{Load}
+use Rattle.item_acts.specs.Launches.{Launch, ItemAsks, group_of, State, start, further, covers, field_at, put_at, answers_to, Turn, Does, after, IsTurn, MayDo, May, Allowed, run}
 use Rattle.item_acts.specs.Tame.{Access, access_of, accesses_of, log_of, HasRace, IsFault}
 use Rattle.item_acts.specs.OneResult.{IsFaultFree, IsWithin}
 use Rattle.item_acts.proofs.Swaps.{same_state, covers_further, in_one_group}
@@ -188,10 +187,10 @@ module _ (l : Launch) (given final : ℕ → ℕ → ℕ) (cores : ℕ) (events 
       let after_x : Each (λ y. x.event.place ≤ y.event.place) tail = (sorted_back done (x ∷ tail) (subst Sorted split (sorted_merged events cores))).0 in
       subst (StoresFrom x.event.place byte) (project_merged events cores other known.rising below)
       (stores_of_project x.event.place byte other (merged events cores)
-      (subst (Each (λ y. y.core ≡ other → stores y.event.what byte ≡ true → x.event.place ≤ y.event.place)) (sym split)
-      (each_append (λ y. y.core ≡ other → stores y.event.what byte ≡ true → x.event.place ≤ y.event.place) done (x ∷ tail)
-      (each_with (λ y not same stored. absurd (true≢false (sym stored ∙ not (λ e. differ (sym same ∙ e))))) done alone)
-      (λ same stored. absurd (differ (sym same)), each_with (λ y le same stored. le) tail after_x))))
+      (subst (Each (λ y. y.core ≡ other → StoresFrom x.event.place byte (y.event ∷ []))) (sym split)
+      (each_append (λ y. y.core ≡ other → StoresFrom x.event.place byte (y.event ∷ [])) done (x ∷ tail)
+      (each_with (λ y not same. (λ stored. absurd (true≢false (sym stored ∙ not (λ e. differ (sym same ∙ e)))), tt)) done alone)
+      (λ same. absurd (differ (sym same)), each_with (λ y le same. (λ stored. le, tt)) tail after_x))))
 
   -- and the answer is what the interleaving has
   told_load : (done tail : List Tagged) (x : Tagged) → merged events cores ≡ done ++ x ∷ tail → Follows l given done

@@ -8,3 +8,4 @@ pub mod ManyLaunches
 pub mod WorkedLaunches
 pub mod MoveBytes
 pub mod MoveEvents
+pub mod MoveHonesty

@@ -1,12 +1,12 @@
 -- Stores of items stand in the log of the turns that made them, and two accesses of other groups to one byte, of which one is
 -- a store, are a race.
-use Rattle.std.proofs.Common.{◌≡◌, ◌≢◌, ℕ, suc, Bool, true, false, ◌||◌, List, [], ◌∷◌, ◌++◌, slice_get, Some, refl, ap, sym, ◌∙◌, subst, inl, inr, ◌⊎◌, append_assoc, append-nil}
-use Rattle.std.proofs.lemmas.Bool.{or_left, or_right}
+use Rattle.std.proofs.Common.{◌≡◌, ◌≢◌, ℕ, suc, true, List, [], ◌∷◌, ◌++◌, slice_get, Some, refl, ap, sym, ◌∙◌, inl, inr, ◌⊎◌, append_assoc, append-nil}
+use Rattle.std.proofs.lemmas.Bool.{or_left}
 use Rattle.vx_base.specs.Bytes.{bytes_of}
 use Rattle.vx_base.specs.declared.types.Size.{Size}
 use Rattle.item_acts.specs.declared.acts.Place.{Place}
-use Rattle.item_acts.specs.Launches.{Launch, group_of, State, covers, Turn, after, May, Allowed, run}
-use Rattle.item_acts.specs.Tame.{Access, accesses_of, log_of, IsRace, HasRace, IsFault, FaultsAtMostLast}
+use Rattle.item_acts.specs.Launches.{Launch, group_of, State, covers, Turn, after, Allowed, run}
+use Rattle.item_acts.specs.Tame.{Access, accesses_of, log_of, HasRace, FaultsAtMostLast}
 use Rattle.item_acts.specs.OneResult.{IsFaultFree}
 use Rattle.item_acts.proofs.Fronts.{faults_later}
 use Rattle.launch_order.specs.Events.{Loaded, Stored, Finished, Happening, Did, Released}

@@ -8,7 +8,7 @@ use Rattle.item_acts.specs.declared.acts.Place.{Place}
 use Rattle.item_acts.specs.declared.acts.Place.TheVariants.{Global, Local}
 use Rattle.item_acts.specs.declared.acts.Action.TheVariants.{Store}
 use Rattle.item_acts.specs.Launches.{Launch, group_of, State, covers, byte_at, IsInside}
-use Rattle.launch_order.specs.Events.{Loaded, Stored, Did, Event, led, stores}
+use Rattle.launch_order.specs.Events.{Loaded, Stored, Did, Event, led}
 use Rattle.launch_order.specs.Cores.{StoresFrom, StoreNot}
 use Rattle.launch_order.specs.Moves.{Cell, Shared, Scratch, Move, Reads, Writes, Leaves, Frees, Moved, address_of, spans, writes_to, written, left_by, mover, moves_of, Held, Byte, NoByte, event_if, events_in, events_of, IsGlobal, IsLocalOf, SeeOne, IsMap, KeepsToArrays, WritesFrom, WriteNot, IsSafe}
 use Rattle.launch_order.proofs.Seen.{led_append}
@@ -50,7 +50,7 @@ spans_self (Shared a) size = let pos = size_pos size in and_from _ _ (le-leb a a
 spans_self (Scratch a) size = let pos = size_pos size in and_from _ _ (le-leb a a (omega arith)) (lt-ltb a (a + bytes_of size) (omega (arith, pos)))
 
 -- a write that touches no array writes no cell of one
-aside_not : (holds : ℕ → Cell → Held) (cell c : Cell) (n other : ℕ) (q : Place) → ((z : ℕ) (d : Cell) → spans cell n d ≡ true → holds z d ≡ NoByte)
+pub aside_not : (holds : ℕ → Cell → Held) (cell c : Cell) (n other : ℕ) (q : Place) → ((z : ℕ) (d : Cell) → spans cell n d ≡ true → holds z d ≡ NoByte)
     → holds other c ≡ Byte q → spans cell n c ≡ false
 aside_not holds cell c n other q aside is =
     false_from_ne_true _ (λ e. let clash : NoByte ≡ Byte q = sym (aside other c e) ∙ is in cc)

@@ -1,19 +1,18 @@
 -- Moves that are safe, with the laws of their bytes, make events of which all is known that the laws of a launch ask.
-use Rattle.std.proofs.Common.{◌≡◌, ◌≢◌, ℕ, ◌+◌, ◌-◌, ◌^◌, ◌<◌, ◌≤◌, ◌⊎◌, Bool, true, false, List, [], ◌∷◌, ◌++◌, slice_index, refl, ap, sym, ◌∙◌, subst, inl, inr, arith, append_assoc, append-nil}
-use Rattle.std.proofs.lemmas.Bool.{cases_eq}
-use Rattle.vx_base.specs.Bytes.{bytes_of, byte_of, number_of}
+use Rattle.std.proofs.Common.{◌≡◌, ◌≢◌, ℕ, ◌+◌, ◌<◌, ◌≤◌, ◌⊎◌, Bool, true, List, [], ◌∷◌, ◌++◌, refl, ap, sym, ◌∙◌, subst, inl, inr, arith, append_assoc, append-nil}
+use Rattle.vx_base.specs.Bytes.{bytes_of, byte_of}
 use Rattle.vx_base.specs.declared.types.Pos.{Pos}
 use Rattle.vx_base.specs.declared.types.Size.{Size}
 use Rattle.vx_base.proofs.NumberLaws.{number_of-same, number_of-whole}
 use Rattle.item_acts.specs.declared.acts.Place.{Place}
 use Rattle.item_acts.specs.declared.acts.Place.TheVariants.{Global, Local}
-use Rattle.item_acts.specs.declared.acts.Action.TheVariants.{Load, Store, End}
+use Rattle.item_acts.specs.declared.acts.Action.TheVariants.{Load}
 use Rattle.item_acts.specs.Launches.{Launch, group_of, State, Going, Ended, start, opening_bytes, further, covers, field_at, IsInside}
 use Rattle.item_acts.proofs.Launches.{put_at_same, put_at_other}
 use Rattle.item_acts.proofs.Swaps.{covers_further}
-use Rattle.launch_order.specs.Events.{Deed, Loaded, Stored, Finished, action_of, Happening, Did, Released, Event, CoreEnd, AllDone, AtFault, Stuck, happened, led, NeverFall}
-use Rattle.launch_order.specs.Cores.{IsClear, IsUnshared, ItemDid, GroupReleased, IsSound, IsAtFault, IsApartHere, HasEndedThere, CoreEvents}
-use Rattle.launch_order.specs.Moves.{Cell, Shared, Scratch, Move, Reads, Writes, Leaves, Frees, Moved, beyond, left_by, moves_of, Held, Byte, NoByte, event_if, events_in, events_of, core_events, IsGlobal, IsLocalOf, IsMap, KeepsToArrays, MovesNeverFall, Comes, opening_cells, HasLeft, KeepsBytes, IsSafe, seen_of, Along}
+use Rattle.launch_order.specs.Events.{Loaded, Stored, Finished, Did, Released, Event, CoreEnd, AtFault, Stuck, led, NeverFall}
+use Rattle.launch_order.specs.Cores.{IsClear, ItemDid, IsSound, IsAtFault, IsApartHere, CoreEvents}
+use Rattle.launch_order.specs.Moves.{Cell, Shared, Scratch, Move, Reads, Writes, Leaves, Frees, Moved, left_by, Held, Byte, NoByte, event_if, events_in, events_of, core_events, IsGlobal, IsLocalOf, IsMap, KeepsToArrays, MovesNeverFall, Comes, opening_cells, HasLeft, KeepsBytes, IsSafe, seen_of, Along}
 use Rattle.launch_order.proofs.Seen.{led_append}
 use Rattle.launch_order.proofs.MoveBytes.{spans_self, AllPlaced, placed_of_safe, placed_front, left_shared, left_scratch, writes_from, write_not}
 
@@ -97,7 +96,7 @@ move_of holds (m ∷ moves) (b ∷ before) behind e is =
             behind = more.behind;
             split = ap (λ zs. m ∷ zs) more.split;
             projects =
-              ap (λ xs. xs ++ events_of holds more.front) one ∙ ap (λ z. z ∷ events_of holds more.front) first ∙ ap (λ zs. b ∷ zs) more.projects;
+                ap (λ xs. xs ++ events_of holds more.front) one ∙ ap (λ z. z ∷ events_of holds more.front) first ∙ ap (λ zs. b ∷ zs) more.projects;
             event = more.event;
           }
     ]
@@ -137,7 +136,7 @@ local_zero own given (Global buffer byte) in_group = absurd in_group
 local_zero own given (Local group array byte) in_group = refl
 
 -- and a buffer has what is given
-global_given : (l : Launch) (holds : ℕ → Cell → Held) (given : ℕ → ℕ → ℕ) (opening : ℕ → ℕ)
+pub global_given : (l : Launch) (holds : ℕ → Cell → Held) (given : ℕ → ℕ → ℕ) (opening : ℕ → ℕ)
     → ((item a buffer byte : ℕ) → holds item (Shared a) ≡ Byte (Global buffer byte) → opening a ≡ given buffer byte)
     → (item a : ℕ) (q : Place) → IsGlobal q → holds item (Shared a) ≡ Byte q → opening a ≡ opening_bytes given q
 global_given l holds given opening opens item a (Global buffer byte) global is = opens item a buffer byte is
@@ -207,7 +206,7 @@ module _ (l : Launch) (holds : ℕ → Cell → Held) (address : ℕ → ℕ →
       let there : holds item (Shared (a + k)) ≡ Byte (further p k) = map.names item (Shared a) p (bytes_of size) k is inside small in
       bytes.shared core below before m comes item a size n k what small
       (λ other below' differ. writes_from l holds address map m.place (moves other) (placed_core other below') item (a + k) (further p k) there
-        (clear (further p k) (covers_further p (bytes_of size) k small) other below' differ))
+      (clear (further p k) (covers_further p (bytes_of size) k small) other below' differ))
       ∙ own_shared before placed item (a + k) (further p k) there
   own_byte core below before m comes placed item (Scratch a) size n p what is inside clear k small =
       let there : holds item (Scratch (a + k)) ≡ Byte (further p k) = map.names item (Scratch a) p (bytes_of size) k is inside small in
@@ -292,8 +291,8 @@ module _ (l : Launch) (holds : ℕ → Cell → Held) (address : ℕ → ℕ →
   ended_stays core front [] along item ended = subst (λ zs. (seen_of holds given zs).standing item ≡ Ended) (sym (append-nil front)) ended
   ended_stays core front (m ∷ xs) along item ended =
       let next : (seen_of holds given (front ++ m ∷ [])).standing item ≡ Ended =
-        ap (λ s. s.standing item) (seen_more holds given front m)
-        ∙ ended_step l holds core_of core (seen_of holds given front) m.place m.what along.0 item ended in
+      ap (λ s. s.standing item) (seen_more holds given front m)
+      ∙ ended_step l holds core_of core (seen_of holds given front) m.place m.what along.0 item ended in
       subst (λ zs. (seen_of holds given zs).standing item ≡ Ended) (append_assoc front (m ∷ []) xs)
       (ended_stays core (front ++ m ∷ []) xs along.1 item next)
 
@@ -301,17 +300,17 @@ module _ (l : Launch) (holds : ℕ → Cell → Held) (address : ℕ → ℕ →
   left_ended : (core : ℕ) → core < cores → (item : ℕ) → HasLeft item (moves core) → (led (start given) (core_events holds moves core)).standing item ≡ Ended
   left_ended core below item (before, (m, (behind, split, leaves))) =
       let along = along_behind (λ before m. IsSafe l holds core_of core (seen_of holds given before) m.what) [] before m behind
-        (subst (Along (λ before m. IsSafe l holds core_of core (seen_of holds given before) m.what) []) split (all_safe core below)) in
+      (subst (Along (λ before m. IsSafe l holds core_of core (seen_of holds given before) m.what) []) split (all_safe core below)) in
       let here : (seen_of holds given (before ++ m ∷ [])).standing item ≡ Ended =
-        ap (λ s. s.standing item) (seen_more holds given before m)
-        ∙ ap (λ w. (led (seen_of holds given before) (events_in holds m.place w)).standing item) leaves
-        ∙ put_at_same item Ended (seen_of holds given before).standing in
+      ap (λ s. s.standing item) (seen_more holds given before m)
+      ∙ ap (λ w. (led (seen_of holds given before) (events_in holds m.place w)).standing item) leaves
+      ∙ put_at_same item Ended (seen_of holds given before).standing in
       ap (λ zs. (seen_of holds given zs).standing item) (split ∙ sym (append_assoc before (m ∷ []) behind))
       ∙ ended_stays core (before ++ m ∷ []) behind along item here
 
   -- all is known of the events
   pub moves_known : ((core : ℕ) → core < cores → (item : ℕ) (pos : Pos) → ends core ≡ AtFault item pos
-        → IsAtFault l core_of core (seen_of holds given (moves core)) item pos)
+      → IsAtFault l core_of core (seen_of holds given (moves core)) item pos)
       → ((core : ℕ) → core < cores → ends core ≡ Stuck → IsApartHere l core_of core (seen_of holds given (moves core)))
       → CoreEvents l given final cores (core_events holds moves) ends
   moves_known at_fault stuck = record {
@@ -320,14 +319,14 @@ module _ (l : Launch) (holds : ℕ → Cell → Held) (address : ℕ → ℕ →
     rising = λ core below. rising_of holds 0 (moves core) (bytes.rising core below);
     sound = sound_core;
     final_own = λ core below buffer byte inside alone.
-      bytes.ends_own core below buffer byte inside
+        bytes.ends_own core below buffer byte inside
         (λ other below' differ. write_not l holds address map (moves other) (placed_core other below') 0 (address buffer byte) (Global buffer byte)
-          (map.buffers 0 buffer byte inside) (alone other below' differ))
-      ∙ own_shared (moves core) (placed_core core below) 0 (address buffer byte) (Global buffer byte) (map.buffers 0 buffer byte inside);
+        (map.buffers 0 buffer byte inside) (alone other below' differ))
+        ∙ own_shared (moves core) (placed_core core below) 0 (address buffer byte) (Global buffer byte) (map.buffers 0 buffer byte inside);
     final_outside = bytes.final_outside;
     finished = λ done item exists.
-      let there = bytes.finished done item exists in
-      record { exists = there.0; ended = left_ended (core_of (group_of l item)) there.0 item there.1 };
+        let there = bytes.finished done item exists in
+        record { exists = there.0; ended = left_ended (core_of (group_of l item)) there.0 item there.1 };
     at_fault = at_fault;
     stuck = stuck;
   }

@@ -1,7 +1,7 @@
 -- A group that a core has released may pass: no item was left out, and all wait at one point.
-use Rattle.std.proofs.Common.{◌≡◌, ◌≢◌, ℕ, ◌*◌, ◌<◌, ◌⊎◌, Bool, true, false, cond, nat_eq, nat_lt, List, [], ◌∷◌, ◌++◌, refl, ap, sym, ◌∙◌, subst, inl, inr, append_assoc, append-nil, ltb-true}
+use Rattle.std.proofs.Common.{◌≡◌, ◌≢◌, ℕ, ◌*◌, ◌<◌, Bool, cond, nat_eq, nat_lt, List, [], ◌∷◌, ◌++◌, refl, ap, sym, ◌∙◌, subst, inl, inr, append_assoc, append-nil, ltb-true}
 use Rattle.std.proofs.Math.Path.{fun_ext}
-use Rattle.std.proofs.lemmas.Bool.{cases_eq, cases_Bool, and_parts, false_from_ne_true, both_ways}
+use Rattle.std.proofs.lemmas.Bool.{cases_Bool, and_parts, false_from_ne_true, both_ways}
 use Rattle.vx_base.specs.declared.types.Pos.{Pos}
 use Rattle.item_acts.specs.declared.acts.Point.{Point}
 use Rattle.item_acts.specs.declared.acts.Action.{Action}
@@ -10,14 +10,13 @@ use Rattle.item_acts.specs.Launches.{Launch, ItemAsks, group_of, is_in_group, St
 use Rattle.item_acts.specs.Tame.{NeverPasses, IsApart, IsFault, accesses_of}
 use Rattle.item_acts.specs.OneResult.{IsFaultFree, alone, HasStopped}
 use Rattle.item_acts.proofs.Launches.{put_at_same}
-use Rattle.item_acts.proofs.Swaps.{same_state, still_waits, first_in_group, in_one_group, in_own_group}
+use Rattle.item_acts.proofs.Swaps.{same_state, still_waits, first_in_group, in_one_group}
 use Rattle.item_acts.proofs.Fronts.{stopped_stays}
 use Rattle.item_acts.proofs.Schedules.{drive, cases_point}
-use Rattle.launch_order.specs.Events.{Happening, Released, Event, CoreEnd, happened}
-use Rattle.launch_order.specs.Cores.{NeverAgain, StoodAt, LeftOut, GroupReleased, CoreEvents}
+use Rattle.launch_order.specs.Events.{Released, Event, CoreEnd, happened}
+use Rattle.launch_order.specs.Cores.{StoodAt, LeftOut, GroupReleased, CoreEvents}
 use Rattle.launch_order.specs.Lists.{IsOrderlyWithin}
 use Rattle.launch_order.proofs.Merged.{Tagged, merged}
-use Rattle.launch_order.proofs.Seen.{SameItem}
 use Rattle.launch_order.proofs.Logged.{run_append, allowed_append, free_append, free_faults, IsLogged}
 use Rattle.launch_order.proofs.Following.{whole, own, Follows, follows_more, seen}
 

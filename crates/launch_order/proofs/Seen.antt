@@ -1,12 +1,12 @@
 -- What a core has seen of its own items and of the bytes that no other core stores is what all cores together have made of
 -- them.
-use Rattle.std.proofs.Common.{◌≡◌, ◌≢◌, ℕ, ◌-◌, ◌≤◌, Bool, true, false, cond, nat_eq, List, [], ◌∷◌, ◌++◌, refl, ap, sym, ◌∙◌, subst, inl, inr}
+use Rattle.std.proofs.Common.{◌≡◌, ◌≢◌, ℕ, ◌-◌, true, false, cond, nat_eq, List, [], ◌∷◌, ◌++◌, refl, ap, sym, ◌∙◌, subst, inl, inr}
 use Rattle.std.proofs.lemmas.Bool.{cases_eq, cond-false, false_from_ne_true}
 use Rattle.vx_base.specs.Bytes.{bytes_of, byte_of}
 use Rattle.item_acts.specs.declared.acts.Place.{Place}
-use Rattle.item_acts.specs.Launches.{Launch, group_of, State, covers, byte_at, put_at, standing_after}
+use Rattle.item_acts.specs.Launches.{Launch, group_of, State, covers, byte_at, standing_after}
 use Rattle.item_acts.proofs.Launches.{put_at_other}
-use Rattle.launch_order.specs.Events.{Deed, Loaded, Stored, Finished, action_of, answers_of, Happening, Did, Released, Event, happened, led, stores}
+use Rattle.launch_order.specs.Events.{Loaded, Stored, Finished, action_of, answers_of, Happening, Did, Released, Event, happened, led, stores}
 use Rattle.launch_order.specs.Cores.{StoresFrom}
 use Rattle.launch_order.proofs.Merged.{Tagged, project, untagged, Each, project_here, project_past}
 
@@ -108,10 +108,10 @@ seen_byte core byte (x ∷ xs) alone s t same =
 
 -- which of the events of one core store a byte, by the events of all
 pub stores_of_project : (place : ℕ) (byte : Place) (core : ℕ) (xs : List Tagged)
-    → Each (λ y. y.core ≡ core → stores y.event.what byte ≡ true → place ≤ y.event.place) xs → StoresFrom place byte (project core xs)
+    → Each (λ y. y.core ≡ core → StoresFrom place byte (y.event ∷ [])) xs → StoresFrom place byte (project core xs)
 stores_of_project place byte core [] each = tt
 stores_of_project place byte core (y ∷ ys) each =
     elim (cases_eq y.core core) [
-      | inl e ↦ subst (StoresFrom place byte) (sym (project_here core y ys e)) (each.0 e, stores_of_project place byte core ys each.1)
+      | inl e ↦ subst (StoresFrom place byte) (sym (project_here core y ys e)) ((each.0 e).0, stores_of_project place byte core ys each.1)
       | inr differ ↦ subst (StoresFrom place byte) (sym (project_past core y ys differ)) (stores_of_project place byte core ys each.1)
     ]

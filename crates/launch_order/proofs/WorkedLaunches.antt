@@ -1,5 +1,5 @@
 -- The premises of the laws are met by small launches.
-use Rattle.std.proofs.Common.{◌≡◌, ◌≢◌, ℕ, zero, suc, ◌<◌, ◌≤◌, List, [], ◌∷◌, ◌++◌, slice_index, refl, subst, subst₂, inl, arith, lit<, lit≤, ne_eqb}
+use Rattle.std.proofs.Common.{◌≡◌, ℕ, zero, suc, ◌<◌, ◌≤◌, List, [], ◌∷◌, ◌++◌, slice_index, refl, subst, subst₂, inl, arith, lit<, lit≤, ne_eqb}
 use Rattle.std.proofs.lemmas.Bool.{true≢false, cond-false}
 use Rattle.vx_base.specs.declared.types.Pos.{Pos}
 use Rattle.vx_base.specs.declared.types.Size.TheVariants.{One}

@@ -1,5 +1,5 @@
 -- What is known of each core's events, on what the core itself has seen of the launch, and of its end.
-use Rattle.std.specs.Prelude.{◌≡◌, ◌≢◌, ℕ, ◌+◌, ◌*◌, ◌<◌, ◌≤◌, Bool, true, false, ◌⊎◌, List, [], ◌∷◌, ◌++◌, slice_index}
+use Rattle.std.specs.Prelude.{◌≡◌, ◌≢◌, ℕ, ◌*◌, ◌<◌, ◌≤◌, Bool, true, false, ◌⊎◌, List, [], ◌∷◌, ◌++◌, slice_index}
 use Rattle.vx_base.specs.Bytes.{bytes_of}
 use Rattle.vx_base.specs.declared.types.Pos.{Pos}
 use Rattle.item_acts.specs.declared.acts.Place.{Place}

@@ -4,10 +4,10 @@ use Rattle.vx_base.specs.declared.types.Pos.{Pos}
 use Rattle.item_acts.specs.declared.acts.Action.{Action}
 use Rattle.item_acts.specs.declared.acts.Asked.TheVariants.{Act}
 use Rattle.item_acts.specs.declared.acts.Action.TheVariants.{Fault}
-use Rattle.item_acts.specs.Launches.{Launch, group_of, State, Going, start, Turn, Does, MayDo, Allowed, run}
+use Rattle.item_acts.specs.Launches.{Launch, group_of, State, Going, start, Turn, Does, Allowed, run}
 use Rattle.item_acts.specs.Tame.{IsTameWithin, LaunchLeaves}
 use Rattle.item_acts.specs.OneResult.{IsSettled, IsFaultFree, InBounds}
-use Rattle.launch_order.specs.Events.{Event, CoreEnd, AllDone, led}
+use Rattle.launch_order.specs.Events.{Event, CoreEnd, AllDone}
 use Rattle.launch_order.specs.Cores.{CoreEvents}
 
 -- More small steps never change what an item asks for, groups have items, the launch is tame over these bytes within n, and

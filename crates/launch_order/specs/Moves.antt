@@ -253,3 +253,7 @@ pub record GoesAlong (Knows : ℕ → List Moved → Moved → Type 0) (l : Laun
       → Along (Knows core) [] (moves core) → IsAtFault l core_of core (seen_of holds given (moves core)) item pos
   pub stuck : (core : ℕ) → core < cores → ends core ≡ Stuck → AreHonest holds constant given (moves core)
       → Along (Knows core) [] (moves core) → IsApartHere l core_of core (seen_of holds given (moves core))
+
+-- the move is safe by what its core has seen: one choice of what the simulation of warps knows of each move
+abbrev pub KnowsSafe : Launch → (ℕ → Cell → Held) → (ℕ → ℕ → ℕ) → (ℕ → ℕ) → ℕ → List Moved → Moved → Type 0
+KnowsSafe l holds given core_of core before m = IsSafe l holds core_of core (seen_of holds given before) m.what
