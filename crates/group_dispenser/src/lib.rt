@@ -12,6 +12,7 @@ pub mod claimer;
 pub mod crew;
 pub mod dispenser;
 pub mod rule;
+
 pub use claimer::{Claimer, ClaimerList};
 pub use crew::{claimers, close, gather};
 pub use dispenser::Dispenser;
