@@ -1,10 +1,9 @@
 -- Entries that are made on a bus and counted.
-use Rattle.std.proofs.Common.{◌≡◌, ℕ, List, [], ◌∷◌, ap, ◌∙◌, sym, subst, refl}
+use Rattle.std.proofs.Common.{◌≡◌, ℕ, List, [], ◌∷◌, ap, ◌∙◌}
 use Rattle.memory_banks.specs.declared.entry.BusEntry.{BusEntry}
-use Rattle.memory_banks.specs.Buses.{ActsTwice, MakesAll}
-use Rattle.memory_banks.specs.Entries.{and_entry, or_entry}
+use Rattle.memory_banks.specs.Buses.{MakesAll}
 use Rattle.vx_core.specs.CountingBuses.{CountsEntry, KeepsCounting}
-use Rattle.vx_core.specs.Places.{with_entries, with_entry, with_word}
+use Rattle.vx_core.specs.Places.{with_entries}
 use Rattle.vx_core.specs.declared.counting_bus.CountingBus.{CountingBus}
 
 -- what entries do that are counted

@@ -1,5 +1,5 @@
 -- A bus of which the entries are counted.
-use Rattle.std.specs.Prelude.{◌≡◌, ℕ}
+use Rattle.std.specs.Prelude.{◌≡◌}
 use Rattle.memory_banks.specs.declared.entry.BusEntry.{BusEntry}
 use Rattle.vx_core.specs.Places.{with_entry}
 use Rattle.vx_core.specs.declared.counting_bus.CountingBus.{CountingBus}

@@ -3,7 +3,6 @@
 use Rattle.std.specs.Prelude.{◌≡◌, ℕ, ◌+◌, ◌-◌, ◌*◌, ◌/◌, ◌%◌, ◌^◌, Bool, true, false, ◌&&◌, nat_le, min, if◌then◌else◌, List, [], ◌∷◌, slice_index, slice_set}
 use Rattle.vx_base.specs.Bytes.{bytes_of, field_of, with_field}
 use Rattle.vx_base.specs.declared.types.Size.{Size}
-use Rattle.vx_base.specs.declared.types.Size.TheVariants.{One, Two, Four}
 use Rattle.vx_isa.specs.Warps.{WarpState}
 use Rattle.vx_isa.specs.WarpSteps.{Access, Fields, Reads, Takes, Writes, warp_step}
 use Rattle.vx_isa.specs.declared.warps.Ids.{Ids}
