@@ -1,8 +1,8 @@
 -- A cache without ways and without room is as it was behind a write.
-use Rattle.std.proofs.Common.{◌≡◌, ℕ, ◌/◌, ◌%◌, ◌≤◌, List, [], length, get_or, map, replicate, set, ap, sym, ◌∙◌, inl, inr, arith}
+use Rattle.std.proofs.Common.{◌≡◌, ℕ, ◌/◌, ◌%◌, List, [], get_or, map, replicate, set, ap, sym, ◌∙◌, inl, inr, arith}
 use Rattle.std.proofs.lemmas.Bool.{cases_lt}
 use Rattle.std.proofs.lemmas.List.{get_or-replicate, get_or_past, length-replicate, set-get_or}
-use Rattle.l1_cache.specs.Lines.{Change, Line, Lines, bare_lines, changed_line, with_change}
+use Rattle.l1_cache.specs.Lines.{Change, Line, bare_lines, changed_line, with_change}
 
 -- lists of so many sets, none of which has a line
 abbrev empty_sets : ℕ → List (List Line)

@@ -1,12 +1,12 @@
 -- Changes carried out on a bus, one by one, and a write to a cache without room, which carries out its change at once.
-use Rattle.std.proofs.Common.{◌≡◌, ℕ, ◌/◌, ◌%◌, ◌<◌, List, [], ◌∷◌, ◌++◌, refl, sym, ◌∙◌, ne_eqb}
+use Rattle.std.proofs.Common.{◌≡◌, ℕ, ◌/◌, ◌%◌, ◌<◌, [], ◌∷◌, refl, sym, ne_eqb}
 use Rattle.vx_base.specs.declared.types.Size.{Size}
 use Rattle.vx_base.specs.declared.types.Size.TheVariants.{One, Two, Four}
 use Rattle.memory_banks.specs.declared.entry.BusEntry.{BusEntry}
-use Rattle.memory_banks.specs.Buses.{ActsTwice, MakesAll}
+use Rattle.memory_banks.specs.Buses.{ActsTwice}
 use Rattle.memory_banks.specs.Entries.{load_entry, store_entry, and_entry, or_entry}
-use Rattle.l1_cache.specs.Accesses.{CarriesChange, CarriesFirst, ReadsField, WritesField, carried}
-use Rattle.l1_cache.specs.Lines.{Change, Lines, bare_lines, change_of, kept_bits, part_of, written_bits}
+use Rattle.l1_cache.specs.Accesses.{CarriesChange, ReadsField, WritesField}
+use Rattle.l1_cache.specs.Lines.{bare_lines, change_of, kept_bits, part_of, written_bits}
 use Rattle.l1_cache.proofs.Apart.{keeps_some}
 use Rattle.l1_cache.proofs.BareLines.{bare-change}
 

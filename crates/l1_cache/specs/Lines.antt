@@ -1,6 +1,6 @@
 -- A cache: its lines, the changes that wait to be carried out, and how they are changed. `Accesses.antt` says what reads and
 -- writes make of it.
-use Rattle.std.specs.Prelude.{ℕ, ◌+◌, ◌-◌, ◌*◌, ◌/◌, ◌%◌, ◌^◌, nat_eq, not, min, if◌then◌else◌, List, [], ◌∷◌, ◌++◌, filter, find, length, map, replicate, slice_index, slice_index_or, slice_set, take, drop, bit_and, bit_or, Option}
+use Rattle.std.specs.Prelude.{ℕ, ◌+◌, ◌-◌, ◌*◌, ◌/◌, ◌%◌, ◌^◌, nat_eq, not, min, if◌then◌else◌, List, [], ◌∷◌, filter, find, length, map, replicate, slice_index, slice_index_or, slice_set, take, drop, bit_and, bit_or, Option}
 use Rattle.std.specs.List.{list_any, range_with_len}
 use Rattle.vx_base.specs.declared.types.Size.{Size}
 use Rattle.vx_base.specs.declared.types.Size.TheVariants.{One, Two, Four}

@@ -1,4 +1,5 @@
 pub mod BlockLaws
+pub mod CountingLaws
 pub mod ItemLaws
 pub mod LoanLaws
 pub mod OutcomeLaws

@@ -1,12 +1,14 @@
 -- Sets of warps.
-use Rattle.std.proofs.Common.{◌≡◌, ℕ, zero, suc, ◌*◌, ◌^◌, ◌<◌, ◌≤◌, Bool, true, false, not, nat_eq, if◌then◌else◌, inl, inr, ap, sym, ◌∙◌, arith, refl, eq-eqb}
+use Rattle.std.proofs.Common.{◌≡◌, ℕ, zero, suc, ◌*◌, ◌^◌, ◌<◌, ◌≤◌, Bool, true, false, not, nat_eq, if◌then◌else◌, inl, inr, ap, sym, ◌∙◌, arith, refl, eq-eqb, ne_eqb, List}
+use Rattle.std.proofs.Math.Path.{fun_ext}
 use Rattle.std.specs.Prelude.{bit_and, min}
 use Rattle.std.specs.Int.{IsBitSet, bit_at, bit_not, w32}
 use Rattle.std.proofs.lemmas.Nat.Bits.{and_pow, bit_at-lt, bit_at_and, bit_at_above}
-use Rattle.std.proofs.lemmas.Bool.{cases_lt, true≢false}
-use Rattle.vx_isa.specs.Warps.{has_lane, lanes_below}
+use Rattle.std.proofs.lemmas.Bool.{cases_eq, cases_lt, true≢false}
+use Rattle.vx_isa.specs.Warps.{WarpState, has_lane, lanes_below, started}
 use Rattle.vx_isa.proofs.MaskLaws.{has_lane-one, has_lane-zero, lanes_below-lt, bit_at-lanes_below}
-use Rattle.vx_core.specs.Crews.{CrewState, is_running, opening, ready_warps, running_warps, waiting_warps}
+use Rattle.barrier_table.specs.Waiting.{all_waiting}
+use Rattle.vx_core.specs.Crews.{CrewState, Opens, is_running, ready_warps, running_warps, waiting_warps, with_started, without}
 
 -- a bit that is set is 1
 set_bit : (b value power : ℕ) → b < 2 → value ≡ b * power → (value ≡ 0 → ⊥) → b ≡ 1
@@ -50,6 +52,25 @@ ready_warp s warp some =
     running_warp s warp (omega (arith, one, both, few))
 
 -- where a group begins, warp 0 can take a step
-pub ready-opening : ready_warps opening ≡ 1
+running_first : (s : CrewState) → Opens s → is_running s.warps ≡ (λ w. nat_eq w 0)
+running_first s o = fun_ext (λ w.
+    elim (cases_eq w 0) [
+      | inl first ↦
+          rw (eq-eqb w 0 first)
+          (ap (λ (k : ℕ). not (nat_eq (s.warps k).mask 0)) first ∙ ap (λ (v : WarpState). not (nat_eq v.mask 0)) o.first)
+      | inr other ↦ rw (ne_eqb w 0 other) (ap (λ (m : ℕ). not (nat_eq m 0)) (o.others w other))
+    ])
+
+pub ready-opening : (s : CrewState) → Opens s → ready_warps s ≡ 1
 unfolding lanes_below
-ready-opening = refl
+ready-opening s o =
+    ap (λ (test : ℕ → Bool). without (lanes_below 16 test) (waiting_warps s)) (running_first s o)
+    ∙ ap (λ (held : List ℕ). without 1 (all_waiting held)) o.none_wait
+
+-- the set of warp 0
+one_alone : (w : ℕ) → (w ≡ 0 → ⊥) → has_lane 1 w ≡ false
+one_alone w other = has_lane-zero 1 w (bit_at_above 1 1 w (omega arith) (omega (arith, other)))
+
+-- what a start of warp 0 alone leaves of warps that have ended
+pub first-started : (w : ℕ) (pc : ℕ) → (w ≡ 0 → ⊥) → with_started 1 pc (λ v. started 0 0) w ≡ started 0 0
+first-started w pc other = rw (one_alone w other) refl

@@ -2,12 +2,13 @@
 use Rattle.std.specs.Prelude.{◌≡◌, ℕ}
 use Rattle.vx_isa.specs.WarpSteps.{Access}
 use Rattle.memory_banks.specs.declared.entry.BusEntry.{BusEntry}
+use Rattle.l1_cache.specs.Caches.{lines_of}
 use Rattle.vx_core.specs.Places.{Reach, Reaches}
 use Rattle.vx_core.specs.declared.memory.CoreMemory.{CoreMemory}
 
 -- what they lend
 abbrev pub reach_of : {B E : Type 0} → CoreMemory B E → Reach B E
-reach_of m = record { scratch = m.scratch.now; lines = m.cache.now; bus = m.bus.now; policy = m.evict.now; steps = m.steps.now }
+reach_of m = record { scratch = m.scratch.now; lines = lines_of m.cache.now; bus = m.bus.now; policy = m.evict.now; steps = m.steps.now }
 
 -- the loans are the same, and so are the number of the banks, the words of the bus and the number under which its entries stand
 pub record KeepsLoans {B E : Type 0} (count number : B → ℕ) (m n : CoreMemory B E) : Type 0 where

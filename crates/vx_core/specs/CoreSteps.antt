@@ -5,10 +5,11 @@ use Rattle.vx_isa.specs.declared.image.Image.{Image}
 use Rattle.vx_isa.specs.declared.warps.Step.{Step}
 use Rattle.memory_banks.specs.declared.entry.BusEntry.{BusEntry}
 use Rattle.vx_core.specs.Blocks.{with_zeros, with_block}
-use Rattle.vx_core.specs.Counting.{tally_after}
-use Rattle.vx_core.specs.Crews.{CrewState, crew_after, opening, ready_warps, with_warp}
+use Rattle.vx_core.specs.Counting.{counts_in, tally_after}
+use Rattle.vx_core.specs.Crews.{CrewState, Opens, crew_after, ready_warps, with_warp}
 use Rattle.vx_core.specs.Ends.{end_after}
-use Rattle.vx_core.specs.Places.{Reach, TakesInstruction}
+use Rattle.vx_core.specs.Places.{DrainsWords, Reach, TakesInstruction}
+use Rattle.vx_core.specs.declared.counts.CoreCounts.{CoreCounts}
 use Rattle.vx_core.specs.declared.counts.Tally.{Tally}
 use Rattle.vx_core.specs.declared.end.GroupEnd.{GroupEnd}
 use Rattle.vx_core.specs.declared.end.GroupEnd.TheVariants.{Turns}
@@ -21,6 +22,10 @@ pub record CoreState (B E P : Type 0) : Type 0 where
   pub tally : Tally
   pub reach : Reach B E
   pub picker : P
+
+-- what it has counted since its launch began
+abbrev pub counts_of : {B E P : Type 0} → CoreState B E P → CoreCounts
+counts_of s = counts_in s.tally s.reach.lines s.reach.steps
 
 -- what stays the same while a group runs: the number of the core, how many banks it counts, how many words its bus has, under
 -- which number its entries stand, the image, and the job
@@ -55,17 +60,25 @@ pub data Runs {B E P : Type 0} (acts : B → BusEntry → B → Type 0) (evicts 
   Ends : (n : ℕ) (last : CoreState B E P) → n < g.job.turns → GoesOn acts evicts picks g n s last → StepsOnce acts evicts picks g last (Some end) s' → Runs acts evicts picks g s end s'
   RunsOut : GoesOn acts evicts picks g g.job.turns s s' → end ≡ Turns g.job.turns → Runs acts evicts picks g s end s'
 
--- the core as a group finds it, with the policy that was begun for it
-abbrev pub group_start : {B E P : Type 0} → GroupJob → P → CoreState B E P → CoreState B E P
-group_start job picker s = record {
-  crew = opening;
-  tally = s.tally;
-  reach = record s.reach { scratch = with_block job.block (with_zeros job.clear s.reach.scratch) };
-  picker = picker;
-}
+-- the core as a group finds it: the bytes of its scratchpad and the policy that picks warps are begun for it, and the rest is as
+-- it was
+pub record OpensGroup {B E P : Type 0} (begins : P → ℕ → P → Type 0) (job : GroupJob) (s s' : CoreState B E P) : Type 0 where
+  pub crew : Opens s'.crew
+  pub same_tally : s'.tally ≡ s.tally
+  pub reach_is : s'.reach ≡ record s.reach { scratch = with_block job.block (with_zeros job.clear s.reach.scratch) }
+  pub begun : begins s.picker job.group s'.picker
 
--- A group runs on a core, from the picker's beginning on.
+-- behind the last step what waits in the cache is carried out
+pub record ClosesGroup {B E P : Type 0} (acts : B → BusEntry → B → Type 0) (g : Setting) (s s' : CoreState B E P) : Type 0 where
+  pub drained : DrainsWords acts g.port g.banks s.reach s'.reach
+  pub same_crew : s'.crew ≡ s.crew
+  pub same_tally : s'.tally ≡ s.tally
+  pub same_picker : s'.picker ≡ s.picker
+
+-- A group runs on a core, from its beginning on, to an end.
 pub record RunsGroup {B E P : Type 0} (acts : B → BusEntry → B → Type 0) (evicts : E → ℕ → ℕ → ℕ → ℕ → E → Type 0) (begins : P → ℕ → P → Type 0) (picks : P → ℕ → ℕ → P → Type 0) (g : Setting) (s : CoreState B E P) (end : GroupEnd) (s' : CoreState B E P) : Type 0 where
-  pub picker : P
-  pub begun : begins s.picker g.job.group picker
-  pub runs : Runs acts evicts picks g (group_start g.job picker s) end s'
+  pub first : CoreState B E P
+  pub last : CoreState B E P
+  pub opened : OpensGroup begins g.job s first
+  pub runs : Runs acts evicts picks g first end last
+  pub closed : ClosesGroup acts g last s'

@@ -1,9 +1,10 @@
 -- The core that lies in a program's structs.
 use Rattle.std.specs.Prelude.{◌≡◌, ℕ, replicate}
 use Rattle.vx_isa.specs.declared.image.Image.{Image}
-use Rattle.l1_cache.specs.Lines.{no_lines}
+use Rattle.l1_cache.specs.Caches.{lines_of}
+use Rattle.l1_cache.specs.Lines.{emptied, no_lines}
 use Rattle.vx_core.specs.Blocks.{with_zeros, zeros}
-use Rattle.vx_core.specs.Counting.{no_tally}
+use Rattle.vx_core.specs.Counting.{counts_in, no_tally}
 use Rattle.vx_core.specs.Crews.{CrewState}
 use Rattle.vx_core.specs.CoreSteps.{CoreState, Setting}
 use Rattle.vx_core.specs.Places.{Reach}
@@ -36,7 +37,7 @@ pub record KeepsNumbers (old new : Core) : Type 0 where
 
 -- what the lanes of a core reach, with its bus and the policy of its cache
 abbrev pub core_reach : {B E : Type 0} → Core → B → E → Reach B E
-core_reach core bus evict = record { scratch = core.scratch; lines = core.cache; bus = bus; policy = evict; steps = core.steps }
+core_reach core bus evict = record { scratch = core.scratch; lines = lines_of core.cache; bus = bus; policy = evict; steps = core.steps }
 
 -- a core with its bus and its policies
 abbrev pub core_state : {B E P : Type 0} → Core → B → E → P → CoreState B E P
@@ -46,24 +47,16 @@ core_state core bus evict pick = record { crew = crew_of core.crew; tally = core
 abbrev pub setting_of : Core → ℕ → ℕ → Image → GroupJob → Setting
 setting_of core words port image job = record { core = core.number; banks = core.banks; words = words; port = port; image = image; job = job }
 
--- what it has counted since its launch began
-abbrev pub counts_of : Core → CoreCounts
-counts_of core = record {
-  instructions = core.tally.instructions;
-  splits = core.tally.splits;
-  diverged = core.tally.diverged;
-  depth = core.tally.depth;
-  hits = core.cache.hits;
-  misses = core.cache.misses;
-  banks = core.steps;
-}
+-- what it has counted since its launch began: `counts_of` of each of its states
+abbrev pub core_counts : Core → CoreCounts
+core_counts core = counts_in core.tally (lines_of core.cache) core.steps
 
 -- a new core: with a number, so many banks and so many sets, a scratchpad of zeros, a cache that keeps no line, and counts of 0
 pub record IsNew (number banks sets : ℕ) (core : Core) : Type 0 where
   pub number_is : core.number ≡ number
   pub banks_are : core.banks ≡ banks
   pub scratch_is : core.scratch ≡ zeros 1048576
-  pub lines_are : core.cache ≡ no_lines sets
+  pub lines_are : lines_of core.cache ≡ no_lines sets 0 0
   pub tally_is : core.tally ≡ no_tally
   pub steps_are : core.steps ≡ replicate 16 0
 
@@ -71,6 +64,6 @@ pub record IsNew (number banks sets : ℕ) (core : Core) : Type 0 where
 pub record BeginsLaunch (old new : Core) : Type 0 where
   pub same_core : KeepsNumbers old new
   pub scratch_is : new.scratch ≡ with_zeros 1048576 old.scratch
-  pub lines_are : new.cache ≡ no_lines old.cache.set_count
+  pub lines_are : lines_of new.cache ≡ emptied (lines_of old.cache)
   pub tally_is : new.tally ≡ no_tally
   pub steps_are : new.steps ≡ replicate 16 0

@@ -1,8 +1,10 @@
--- What a core counts of its instructions.
-use Rattle.std.specs.Prelude.{ℕ, max}
+-- What a core counts.
+use Rattle.std.specs.Prelude.{ℕ, List, max}
 use Rattle.vx_isa.specs.declared.warps.Step.{Step}
 use Rattle.vx_isa.specs.declared.warps.Step.TheVariants as step
 use Rattle.vx_core.specs.Places.{more}
+use Rattle.l1_cache.specs.Lines.{Lines}
+use Rattle.vx_core.specs.declared.counts.CoreCounts.{CoreCounts}
 use Rattle.vx_core.specs.declared.counts.Tally.{Tally}
 
 abbrev pub no_tally : Tally
@@ -25,4 +27,16 @@ tally_after outcome depth t = record {
   splits = more t.splits (splits_in outcome);
   diverged = more t.diverged (diverged_in outcome);
   depth = max t.depth depth;
+}
+
+-- its counts: those of its instructions, those of its cache, and the entries on each bank
+abbrev pub counts_in : Tally → Lines → List ℕ → CoreCounts
+counts_in tally lines steps = record {
+  instructions = tally.instructions;
+  splits = tally.splits;
+  diverged = tally.diverged;
+  depth = tally.depth;
+  hits = lines.hits;
+  misses = lines.misses;
+  banks = steps;
 }

@@ -1,6 +1,6 @@
 -- The warps of a core and the barriers at which they wait, and what the end of an instruction makes of them. A set of warps is
 -- a number: warp k is in it where bit k is 1.
-use Rattle.std.specs.Prelude.{ℕ, Bool, not, ◌&&◌, nat_eq, nat_lt, min, if◌then◌else◌, List, replicate, bit_and, bit_or}
+use Rattle.std.specs.Prelude.{◌≡◌, ◌≢◌, ℕ, Bool, not, ◌&&◌, nat_eq, nat_lt, min, if◌then◌else◌, List, replicate, bit_and, bit_or}
 use Rattle.std.specs.Int.{bit_not, w32}
 use Rattle.vx_isa.specs.Warps.{WarpState, has_lane, lanes_below, started}
 use Rattle.vx_isa.specs.WarpSteps.{code_start}
@@ -44,9 +44,13 @@ with_started set pc warps = λ w. if has_lane set w then started pc 1 else warps
 abbrev pub with_one : ℕ → WarpState → (ℕ → WarpState) → ℕ → WarpState
 with_one warp moved warps = λ w. if nat_eq w warp then moved else warps w
 
--- a group begins: warp 0 alone is started, at the first word of the code, and no warp waits
-abbrev pub opening : CrewState
-opening = record { warps = with_started 1 code_start (λ w. started 0 0); begun = 1; barriers = replicate 16 0 }
+-- A group begins: warp 0 alone is started, at the first word of the code, and no warp waits. The others have no active lanes;
+-- what their registers hold is not said.
+pub record Opens (s : CrewState) : Type 0 where
+  pub first : s.warps 0 ≡ started code_start 1
+  pub others : (w : ℕ) → w ≢ 0 → (s.warps w).mask ≡ 0
+  pub begun_is : s.begun ≡ 1
+  pub none_wait : s.barriers ≡ replicate 16 0
 
 -- one warp stands so, and the others as before
 abbrev pub with_warp : ℕ → WarpState → CrewState → CrewState

@@ -3,6 +3,7 @@ pub mod CoreMemory
 pub mod CoreSteps
 pub mod Cores
 pub mod Counting
+pub mod CountingBuses
 pub mod Crews
 pub mod Ends
 pub mod Places

@@ -1,15 +1,15 @@
 -- Where the fields that lanes read and write lie, and what an access makes of the scratchpad, of the bus behind the cache, and
 -- of the counts of its steps.
-use Rattle.std.specs.Prelude.{◌≡◌, ℕ, ◌+◌, ◌-◌, ◌*◌, ◌/◌, ◌%◌, ◌^◌, Bool, true, false, ◌&&◌, nat_le, min, if◌then◌else◌, List, slice_index, slice_set}
+use Rattle.std.specs.Prelude.{◌≡◌, ℕ, ◌+◌, ◌-◌, ◌*◌, ◌/◌, ◌%◌, ◌^◌, Bool, true, false, ◌&&◌, nat_le, min, if◌then◌else◌, List, [], ◌∷◌, slice_index, slice_set}
 use Rattle.vx_base.specs.Bytes.{bytes_of, field_of, with_field}
 use Rattle.vx_base.specs.declared.types.Size.{Size}
-use Rattle.vx_base.specs.declared.types.Size.TheVariants.{One, Two, Four}
 use Rattle.vx_isa.specs.Warps.{WarpState}
 use Rattle.vx_isa.specs.WarpSteps.{Access, Fields, Reads, Takes, Writes, warp_step}
 use Rattle.vx_isa.specs.declared.warps.Ids.{Ids}
 use Rattle.vx_isa.specs.declared.warps.Step.{Step}
 use Rattle.memory_banks.specs.declared.entry.BusEntry.{BusEntry}
-use Rattle.l1_cache.specs.Lines.{Lines, ReadsField, WritesField}
+use Rattle.l1_cache.specs.Accesses.{DrainsAll, ReadsField, WritesField}
+use Rattle.l1_cache.specs.Lines.{Lines}
 use Rattle.vx_core.specs.declared.place.Place.{Place}
 use Rattle.vx_core.specs.declared.place.Place.TheVariants as place
 
@@ -60,30 +60,39 @@ pub record Reach (B E : Type 0) : Type 0 where
 abbrev pub more : ℕ → ℕ → ℕ
 more count by = min (count + by) (2 ^ 64 - 1)
 
--- the bank of a line: the banks take the lines in turn
+-- an entry on the bus is counted on the bank of its line: the banks take the lines, of sixteen words each, in turn
 abbrev pub bank_at : ℕ → ℕ → ℕ
-bank_at banks offset = offset / 64 % banks
+bank_at banks word = word / 16 % banks
 
--- so many steps more on the bank of a line
-abbrev pub with_steps : ℕ → ℕ → ℕ → List ℕ → List ℕ
-with_steps banks offset by steps = slice_set steps (bank_at banks offset) (more (slice_index steps (bank_at banks offset)) by)
+abbrev pub with_word : ℕ → ℕ → List ℕ → List ℕ
+with_word banks word steps = slice_set steps (bank_at banks word) (more (slice_index steps (bank_at banks word)) 1)
 
--- how many steps a write makes on the bus
-abbrev pub write_steps : Size → ℕ
-write_steps One = 2
-write_steps Two = 2
-write_steps Four = 1
+abbrev pub with_entry : ℕ → BusEntry → List ℕ → List ℕ
+with_entry banks e steps = with_word banks e.word steps
 
--- a read of the bus's words, through the cache, and counted
+abbrev pub with_entries : ℕ → List BusEntry → List ℕ → List ℕ
+with_entries banks [] steps = steps
+with_entries banks (e ∷ entries) steps = with_entries banks entries (with_entry banks e steps)
+
+-- a read of the bus's words through the cache, of which the entries are counted
 pub record ReadsWords {B E : Type 0} (acts : B → BusEntry → B → Type 0) (evicts : E → ℕ → ℕ → ℕ → ℕ → E → Type 0) (number banks : ℕ) (p : Reach B E) (offset : ℕ) (size : Size) (answer : ℕ) (q : Reach B E) : Type 0 where
+  pub aligned : offset % bytes_of size ≡ 0
   pub read : ReadsField acts evicts number offset size p.lines p.bus p.policy answer q.lines q.bus q.policy
-  pub counted : q.steps ≡ with_steps banks offset 1 p.steps
+  pub counted : q.steps ≡ with_entries banks read.entries p.steps
   pub same_scratch : q.scratch ≡ p.scratch
 
 -- a write of them
 pub record WritesWords {B E : Type 0} (acts : B → BusEntry → B → Type 0) (number banks : ℕ) (p : Reach B E) (offset : ℕ) (size : Size) (value : ℕ) (q : Reach B E) : Type 0 where
+  pub aligned : offset % bytes_of size ≡ 0
   pub written : WritesField acts number offset size value p.lines p.bus q.lines q.bus
-  pub counted : q.steps ≡ with_steps banks offset (write_steps size) p.steps
+  pub counted : q.steps ≡ with_entries banks written.entries p.steps
+  pub same_scratch : q.scratch ≡ p.scratch
+  pub same_policy : q.policy ≡ p.policy
+
+-- what waits in the cache is carried out
+pub record DrainsWords {B E : Type 0} (acts : B → BusEntry → B → Type 0) (number banks : ℕ) (p q : Reach B E) : Type 0 where
+  pub drained : DrainsAll acts number p.lines p.bus q.lines q.bus
+  pub counted : q.steps ≡ with_entries banks drained.entries p.steps
   pub same_scratch : q.scratch ≡ p.scratch
   pub same_policy : q.policy ≡ p.policy
 

@@ -1,6 +1,6 @@
 ghost use Rattle.std.specs.Prelude.{◌≡◌, ◌≢◌, ◌+◌, ◌*◌, ◌%◌, ◌^◌, ◌<◌, ◌≤◌, IfOk, None};
 ghost use Rattle.vx_core.specs.Blocks.{with_zeros, with_block};
-ghost use Rattle.vx_core.specs.Crews.{opening, ready_warps, with_warp};
+ghost use Rattle.vx_core.specs.Crews.{Opens, ready_warps, with_warp};
 ghost use Rattle.vx_core.specs.Ends.{bar_of, lane_of};
 ghost use Rattle.vx_core.specs.Places.{TakesInstruction};
 
@@ -35,7 +35,7 @@ pub struct Core {
 
 impl Core {
     ghost use Rattle.vx_core.specs.CoreSteps.{RunsGroup, StepsOnce};
-    ghost use Rattle.vx_core.specs.Cores.{BeginsLaunch, IsNew, KeepsNumbers, banks_of, core_crew, core_reach, core_state, counts_of, number_of, setting_of, tally_of};
+    ghost use Rattle.vx_core.specs.Cores.{BeginsLaunch, IsNew, KeepsNumbers, banks_of, core_crew, core_reach, core_counts, core_state, number_of, setting_of, tally_of};
 
     /// The core with a number, a cache of 1 to 64 sets of 1 to 8 ways, and bus steps counted by 1 to 16 banks.
     pub fn new(alloc: Global, core: u32, sets: u32, ways: u32, banks: u32) -> Result<Core, Memory>
@@ -67,7 +67,7 @@ impl Core {
 
     /// What the core has counted since the launch began.
     pub fn counts(&self) -> CoreCounts
-        ensures { result ≡ counts_of self.now }
+        ensures { result ≡ core_counts self.now }
     {
         CoreCounts {
             instructions: self.tally.instructions,
@@ -116,7 +116,7 @@ impl Core {
     // The scratchpad, the barriers and the warps as a group finds them.
     fn begin_group(&mut self, job: &GroupJob)
         requires clear { job.now.clear ≤ 1048576 }
-        ensures crew { core_crew self.new ≡ opening }
+        ensures crew { Opens (core_crew self.new) }
         ensures scratch { self.new.scratch ≡ with_block job.now.block (with_zeros job.now.clear self.old.scratch) }
         ensures rest { (self.new.cache ≡ self.old.cache) × (self.new.steps ≡ self.old.steps) × (self.new.tally ≡ self.old.tally) }
         ensures same_core { KeepsNumbers self.old self.new }

@@ -1,7 +1,8 @@
-ghost use Rattle.std.specs.Prelude.{◌≡◌, ◌≢◌, ◌%◌, ◌^◌, ◌<◌, ◌≤◌, length, true};
+ghost use Rattle.std.specs.Prelude.{◌≡◌, ◌≢◌, ◌%◌, ◌^◌, ◌<◌, ◌≤◌, length, replicate, true};
+ghost use Rattle.vx_isa.specs.WarpSteps.{code_start};
 ghost use Rattle.vx_isa.specs.Warps.{has_lane, lanes_below, started};
 ghost use Rattle.vx_core.specs.CoreMemory.{KeepsLoans, reach_of};
-ghost use Rattle.vx_core.specs.Crews.{crew_after, ended_warps, is_running, is_spawned, opening, ready_warps, running_warps, spawned_warps, waiting_warps, with_spawned, with_started, with_warp};
+ghost use Rattle.vx_core.specs.Crews.{Opens, crew_after, ended_warps, is_running, is_spawned, ready_warps, running_warps, spawned_warps, waiting_warps, with_spawned, with_started, with_warp};
 ghost use Rattle.vx_core.specs.Ends.{bar_of, lane_of};
 ghost use Rattle.vx_core.specs.Places.{TakesInstruction};
 ghost use Rattle.vx_core.specs.WarpLists.{warps_of};
@@ -51,7 +52,16 @@ impl Crew {
 
     /// A group begins: warp 0 alone is started, at the first word of the code, and no warp waits.
     pub fn begin(&mut self)
-        ensures { crew_of self.new ≡ opening }
+        ensures { Opens (crew_of self.new) }
+    {
+        self.restart();
+    }
+
+    // All warps have ended but warp 0, which is started at the first word of the code, and no warp waits.
+    fn restart(&mut self)
+        ensures warps { (crew_of self.new).warps ≡ with_started 1 code_start (λ w. started 0 0) }
+        ensures begun { (crew_of self.new).begun ≡ 1 }
+        ensures barriers { (crew_of self.new).barriers ≡ replicate 16 0 }
     {
         end_all(&mut self.warps);
         start_warps(&mut self.warps, 1, CODE_START);

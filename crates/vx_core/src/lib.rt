@@ -6,6 +6,7 @@
 //! - `job`: what a core is told of the group that it runs.
 //! - `end`: how a group ends, and `ends`, which end comes when.
 //! - `counts`: what a core counts.
+//! - `counting_bus`: a bus of which the entries are counted.
 //! - `place`: where the fields lie that lanes read and write.
 //! - `memory`: what the lanes of a core read and write: the scratchpad, and the bus through the cache.
 //! - `crew`: the warps of a core, and the barriers at which they wait.
@@ -13,6 +14,7 @@
 #![tactic(auto)]
 
 pub mod core_run;
+mod counting_bus;
 pub mod counts;
 mod crew;
 pub mod end;

@@ -1,12 +1,13 @@
 ghost use Rattle.std.specs.Prelude.{◌≡◌, ◌+◌, ◌*◌, ◌%◌, ◌≤◌};
 ghost use Rattle.vx_base.specs.Bytes.{bytes_of};
 ghost use Rattle.vx_core.specs.CoreMemory.{KeepsLoans, reach_of};
-ghost use Rattle.vx_core.specs.Places.{ReadsWords, WritesWords, with_steps, write_steps};
+ghost use Rattle.vx_core.specs.Places.{ReadsWords, WritesWords};
 
+use crate::counting_bus::CountingBus;
 use crate::counts::BANKS;
 use crate::place::{Place, place_of};
 use l1_cache::{Cache, Evictor};
-use memory_banks::{Bus, bank_of};
+use memory_banks::Bus;
 use scratchpad::Scratch;
 use vx_base::Size;
 use warp_state::LaneMemory;
@@ -24,27 +25,8 @@ pub struct CoreMemory<'a, B: Bus, E: Evictor> {
     pub evict: &'a mut E,
     /// How many banks the words are spread over.
     pub banks: u32,
-    /// The bus steps on each bank.
+    /// The entries on each bank.
     pub steps: &'a mut [u64; BANKS],
-}
-
-// Counts bus steps on the bank of a line.
-fn count_steps(steps: &mut [u64; BANKS], offset: u32, banks: u32, by: u64)
-    requires { (1 ≤ banks) × (banks ≤ 16) }
-    ensures { steps.new ≡ with_steps banks offset by steps.old }
-{
-    let bank = bank_of(offset / 64, banks) as usize;
-    steps[bank] = steps[bank].saturating_add(by);
-}
-
-// How many steps a write makes on the bus.
-fn write_steps(size: Size) -> u64
-    ensures { result ≡ write_steps size }
-{
-    match size {
-        Size::One | Size::Two => 2,
-        Size::Four => 1,
-    }
 }
 
 impl<B: Bus, E: Evictor> CoreMemory<'_, B, E> {
@@ -60,8 +42,12 @@ impl<B: Bus, E: Evictor> CoreMemory<'_, B, E> {
         ensures kept { KeepsLoans B.count B.number self.old self.new }
         ensures sound { B.is_sound self.new.bus.now }
     {
-        count_steps(self.steps, offset, self.banks, 1);
-        self.cache.read(self.bus, self.evict, offset, size)
+        let mut bus = CountingBus {
+            bus: &mut *self.bus,
+            banks: self.banks,
+            steps: &mut *self.steps,
+        };
+        self.cache.read(&mut bus, self.evict, offset, size)
     }
 
     // Writes the low bytes of a value to a field of the bus's words.
@@ -76,8 +62,12 @@ impl<B: Bus, E: Evictor> CoreMemory<'_, B, E> {
         ensures kept { KeepsLoans B.count B.number self.old self.new }
         ensures sound { B.is_sound self.new.bus.now }
     {
-        count_steps(self.steps, offset, self.banks, write_steps(size));
-        self.cache.write(self.bus, offset, size, value);
+        let mut bus = CountingBus {
+            bus: &mut *self.bus,
+            banks: self.banks,
+            steps: &mut *self.steps,
+        };
+        self.cache.write(&mut bus, offset, size, value);
     }
 }
 

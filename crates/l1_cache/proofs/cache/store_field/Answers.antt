@@ -1,4 +1,4 @@
-use Rattle.std.proofs.Common.{◌%◌, ◌<◌, sym, subst, arith}
+use Rattle.std.proofs.Common.{sym, subst, arith}
 use Rattle.vx_base.specs.declared.types.Size.{Size}
 use Rattle.l1_cache.specs.Accesses.{CarriesChange}
 use Rattle.l1_cache.specs.Lines.{change_of}

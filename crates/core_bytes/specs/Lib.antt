@@ -1,0 +1,5 @@
+pub mod BusRuns
+pub mod Deeds
+pub mod GroupDeeds
+pub mod Mapped
+pub mod OwnBytes
