@@ -1,0 +1,4 @@
+pub mod Addresses
+pub mod Launching
+pub mod Blocks
+pub mod Located
