@@ -44,23 +44,23 @@ has_further s t a start sized inside =
 pub is_map : (p : Plan) → Accepted p → IsMap (map_of p)
 is_map p ok = record {
   buffers_apart = λ i j s t a is jt sa ta.
-    let si = buffer_span p i s is in
-    let tj = buffer_span p j t jt in
-    ok.buffers_apart i j si.span tj.span (a - buffers_start) (a - buffers_start) si.at tj.at
-        (has_further s si.span a si.start si.sized sa) (has_further t tj.span a tj.start tj.sized ta) refl;
+      let si = buffer_span p i s is in
+      let tj = buffer_span p j t jt in
+      ok.buffers_apart i j si.span tj.span (a - buffers_start) (a - buffers_start) si.at tj.at
+      (has_further s si.span a si.start si.sized sa) (has_further t tj.span a tj.start tj.sized ta) refl;
   locals_apart = spans_apart arrays_start (local_sizes p);
   buffers_in = λ i s is.
-    let si = buffer_span p i s is in
-    let start = si.start in
-    let sized = si.sized in
-    let end = ok.buffers_in i si.span si.at in
-    let all = ok.shared in
-    (omega arith, omega arith);
+      let si = buffer_span p i s is in
+      let start = si.start in
+      let sized = si.sized in
+      let end = ok.buffers_in i si.span si.at in
+      let all = ok.shared in
+      (omega arith, omega arith);
   locals_in = λ i s is.
-    let within = span_within arrays_start (local_sizes p) i s is in
-    let total = all_sum (local_sizes p) in
-    let bytes = ok.local_bytes in
-    (within.0, omega (arith, within.1));
+      let within = span_within arrays_start (local_sizes p) i s is in
+      let total = all_sum (local_sizes p) in
+      let bytes = ok.local_bytes in
+      (within.0, omega (arith, within.1));
 }
 
 -- ---- places
@@ -80,13 +80,13 @@ pub at_local : (m : Map) (group i k : ℕ) (s : Span) → IsMap m → slice_get 
 at_local m group i k s ok at below =
     let within = ok.locals_in i s at in
     ap (λ (o : Option Hit). place_found group o (found m.locals (s.start + k))) (no_buffer m (s.start + k) ok (omega (arith, within.1)))
-        ∙ ap (place_found group None) (found_hit m.locals i s k ok.locals_apart at below)
+    ∙ ap (place_found group None) (found_hit m.locals i s k ok.locals_apart at below)
 
 -- where no array has it
 pub at_nothing : (m : Map) (group a : ℕ) → IsMap m → a < buffers_start → (a < arrays_start) ⊎ (frames_start ≤ a) → place_at m group a ≡ None
 at_nothing m group a ok before outside =
     ap (λ (o : Option Hit). place_found group o (found m.locals a)) (no_buffer m a ok before)
-        ∙ ap (place_found group None) (found_outside m.locals arrays_start frames_start a ok.locals_in outside)
+    ∙ ap (place_found group None) (found_outside m.locals arrays_start frames_start a ok.locals_in outside)
 
 -- what an address names, told by the array that has it
 pub data Named (m : Map) (group a : ℕ) (q : Place) : Type 0 where
@@ -122,11 +122,11 @@ has_place p group a q e = by (named (map_of p) group a q e)
         let sized = b.sized in
         let byte = is.byte in
         subst (λ (q : Place). HasBytes p group q 1) (sym same)
-            (subst (λ (o : Option ℕ). Holds o hit.byte 1) (sym (ap size_of_span b.at)) (omega arith))
+        (subst (λ (o : Option ℕ). Holds o hit.byte 1) (sym (ap size_of_span b.at)) (omega arith))
     by (OfLocal hit is same) =
         let byte = is.byte in
         subst (λ (q : Place). HasBytes p group q 1) (sym same)
-            (refl, subst (λ (o : Option ℕ). Holds o hit.byte 1) (sym (local_sized arrays_start (local_sizes p) hit.number is.span is.at)) (omega arith))
+        (refl, subst (λ (o : Option ℕ). Holds o hit.byte 1) (sym (local_sized arrays_start (local_sizes p) hit.number is.span is.at)) (omega arith))
 
 -- and the byte has the address
 pub has_address : (p : Plan) (group a : ℕ) (q : Place) → place_at (map_of p) group a ≡ Some q → address_of (map_of p) q ≡ Some a
@@ -186,10 +186,10 @@ is_run p ok group a n k q e h below = by (held p group q n h)
         let first : a ≡ s.start + byte = cc in
         let here : s.start + (byte + k) ≡ a + k = omega arith in
         subst (λ (b : ℕ). place_at (map_of p) group b ≡ Some (bytes_on q k)) here
-            (at_buffer (map_of p) group i (byte + k) s (is_map p ok) at (omega arith) ∙ ap (λ (q : Place). Some (bytes_on q k)) (sym same))
+        (at_buffer (map_of p) group i (byte + k) s (is_map p ok) at (omega arith) ∙ ap (λ (q : Place). Some (bytes_on q k)) (sym same))
     by (InLocal i byte s same at fits) =
         let named : Some a ≡ Some (s.start + byte) = sym (has_address p group a q e) ∙ ap (address_of (map_of p)) same ∙ ap (λ (o : Option Span). span_byte o byte) at in
         let first : a ≡ s.start + byte = cc in
         let here : s.start + (byte + k) ≡ a + k = omega arith in
         subst (λ (b : ℕ). place_at (map_of p) group b ≡ Some (bytes_on q k)) here
-            (at_local (map_of p) group i (byte + k) s (is_map p ok) at (omega arith) ∙ ap (λ (q : Place). Some (bytes_on q k)) (sym same))
+        (at_local (map_of p) group i (byte + k) s (is_map p ok) at (omega arith) ∙ ap (λ (q : Place). Some (bytes_on q k)) (sym same))

@@ -35,21 +35,21 @@ found_hit (t ∷ spans) zero s k apart at below =
     let here : has t (s.start + k) ≡ true = subst (λ (u : Span). has u (s.start + k) ≡ true) (sym same) (has_byte s k below) in
     let byte : s.start + k - t.start ≡ k = subst (λ (u : Span). s.start + k - u.start ≡ k) (sym same) (omega arith) in
     ap (λ (b : Bool). hit_if b (s.start + k - t.start) (found spans (s.start + k))) here
-        ∙ ap (λ (n : ℕ). Some (record { number = 0; byte = n })) byte
+    ∙ ap (λ (n : ℕ). Some (record { number = 0; byte = n })) byte
 found_hit (t ∷ spans) (suc i) s k apart at below =
     let differ : has t (s.start + k) ≡ false = elim (cases_Bool (has t (s.start + k))) [
       | inl hit ↦ let e : zero ≡ suc i = apart zero (suc i) t s (s.start + k) refl at hit (has_byte s k below) in absurd (omega arith)
       | inr miss ↦ miss
     ] in
     ap (λ (b : Bool). hit_if b (s.start + k - t.start) (found spans (s.start + k))) differ
-        ∙ ap one_further (found_hit spans i s k (later_apart t spans apart) at below)
+    ∙ ap one_further (found_hit spans i s k (later_apart t spans apart) at below)
 
 -- a byte of none of the spans is not found
 pub found_not : (spans : List Span) (a : ℕ) → ((i : ℕ) (s : Span) → slice_get spans i ≡ Some s → has s a ≡ false) → found spans a ≡ None
 found_not [] a none = refl
 found_not (t ∷ spans) a none =
     ap (λ (b : Bool). hit_if b (a - t.start) (found spans a)) (none zero t refl)
-        ∙ ap one_further (found_not spans a (λ i s at. none (suc i) s at))
+    ∙ ap one_further (found_not spans a (λ i s at. none (suc i) s at))
 
 -- what is found has the byte
 pub record IsHit (spans : List Span) (a : ℕ) (hit : Hit) : Type 0 where
@@ -68,12 +68,14 @@ found_back (t ∷ spans) a hit e = by (has t a) (found_back spans a) refl e
         let from = has_from t a inside in
         let below = has_below t a inside in
         subst (IsHit (t ∷ spans) a) same (record { span = t; at = refl; byte = omega arith; address = omega arith })
+
     later : (o : Option Hit) → ((h : Hit) → o ≡ Some h → IsHit spans a h) → one_further o ≡ Some hit → IsHit (t ∷ spans) a hit
     later None each e = absurd (cc)
     later (Some h) each e =
         let same : record { number = suc h.number; byte = h.byte } ≡ hit = cc in
         let inner = each h refl in
         subst (IsHit (t ∷ spans) a) same (record { span = inner.span; at = inner.at; byte = inner.byte; address = inner.address })
+
     by : (b : Bool) → ((h : Hit) → found spans a ≡ Some h → IsHit spans a h) → has t a ≡ b → hit_if b (a - t.start) (found spans a) ≡ Some hit → IsHit (t ∷ spans) a hit
     by true each has_it e = here hit has_it e
     by false each has_not_it e = later (found spans a) each e
