@@ -1,8 +1,7 @@
 -- The code asks for what the source asks for.
-use Rattle.std.proofs.Common.{◌≡◌, refl, sym, ap, ◌∙◌, subst, ℕ, ◌≤◌, true, List, Some, slice_get, arith}
+use Rattle.std.proofs.Common.{◌≡◌, sym, ap, ◌∙◌, subst, ℕ, true, List, Some, slice_get, arith}
 use Rattle.item_acts.specs.declared.acts.Bound.{Bound}
 use Rattle.item_acts.specs.declared.acts.Range.{Range}
-use Rattle.item_settings.specs.Settings.{Setting}
 use Rattle.kir.specs.Machine.{code_setting, cost as code_cost, kir_start, step as code_step}
 use Rattle.kir.specs.Numbered.{GivesWords}
 use Rattle.kir.specs.Trees.{KirCode, NoOps}

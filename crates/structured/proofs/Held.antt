@@ -1,5 +1,5 @@
 -- What a kernel has of a program of which no more is known than that it is of some file.
-use Rattle.std.proofs.Common.{◌≡◌, refl, sym, ap, ◌∙◌, subst, ℕ, ◌<◌, ◌≤◌, true, List, map, length, Option, None, Some, option_map, slice_get, arith}
+use Rattle.std.proofs.Common.{◌≡◌, refl, ℕ, ◌<◌, ◌≤◌, true, List, length, Option, None, Some, option_map, slice_get}
 use Rattle.std.specs.Prelude.{count_by}
 use Rattle.std.proofs.Math.Bridge.{le_prop}
 use Rattle.std.proofs.Math.Logic.{∥∥₁_elim}

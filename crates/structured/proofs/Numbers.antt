@@ -1,9 +1,8 @@
 -- The barriers of the code have different numbers, each below the count of the kernel's.
-use Rattle.std.proofs.Common.{◌≡◌, refl, sym, ap, ◌∙◌, subst, ℕ, ◌+◌, ◌<◌, ◌≤◌, ◌==◌, nat_lt, Bool, true, false, if◌then◌else◌, inl, inr, List, [], ◌∷◌, length, Some, slice_get, arith, eqb-true}
+use Rattle.std.proofs.Common.{◌≡◌, sym, ap, ◌∙◌, ℕ, ◌<◌, ◌≤◌, ◌==◌, nat_lt, Bool, true, if◌then◌else◌, inl, inr, List, [], ◌∷◌, Some, slice_get, arith, eqb-true}
 use Rattle.std.specs.List.{count_by}
 use Rattle.std.proofs.lemmas.Bool.{cases_Bool, ltb-false}
 use Rattle.kir.specs.Measures.{sites}
-use Rattle.kir.specs.Trees.{KirCode}
 use Rattle.ocl_inline.proofs.Counts.{are_below, under, under_more}
 use Rattle.ocl_inline.proofs.KernelLaws.{kernel_sites}
 use Rattle.ocl_inline.proofs.Meetings.{met, met_counts, met_once, one}

@@ -1,5 +1,5 @@
 -- How large the code is, by the measures of the kernel.
-use Rattle.std.proofs.Common.{◌≡◌, refl, sym, ap, ◌∙◌, ℕ, suc, ◌+◌, ◌-◌, ◌*◌, ◌<◌, ◌≤◌, ◌^◌, true, List, length, Some, slice_get, arith}
+use Rattle.std.proofs.Common.{◌≡◌, sym, ap, ◌∙◌, subst, ℕ, ◌+◌, ◌-◌, ◌*◌, ◌<◌, ◌≤◌, ◌^◌, true, List, length, Some, slice_get, arith}
 use Rattle.std.specs.Prelude.{count_by}
 use Rattle.std.proofs.lemmas.List.Sums.{count_by-le-length}
 use Rattle.kir.specs.FlaggedWords.{flagged_words}
@@ -10,8 +10,10 @@ use Rattle.kir.specs.Weights.{weight}
 use Rattle.kir_flow.proofs.FlagsKeep.{flags_keep}
 use Rattle.kir_flow.specs.Flagging.{flags}
 use Rattle.kir_flow.specs.WithoutJumps.{WithoutJumps}
+use Rattle.ocl_inline.proofs.Flats.{flat_is}
 use Rattle.ocl_inline.proofs.KernelLaws.{kernel_measures}
 use Rattle.ocl_inline.specs.Expansion.{kernel_flat}
+use Rattle.ocl_inline.specs.FlatItems.{flat_at}
 use Rattle.ocl_inline.specs.FlatLaws.{HaveMeasures}
 use Rattle.ocl_inline.specs.FlatMeasures.{flat_calls, flat_control, flat_depth, flat_nodes}
 use Rattle.ocl_inline.specs.Trees.{FlatKernel}
@@ -22,8 +24,8 @@ use Rattle.ocl_program.specs.Measures.{cut, measured, own_calls, own_control, ow
 use Rattle.ocl_program.specs.Nodes.{FunctionNode}
 use Rattle.ocl_sem.specs.Source.{is_scalar}
 use Rattle.ocl_types.specs.Functions.{IsProgram}
-use Rattle.structured.specs.Ready.{AreLimited, Measures, measures_of}
-use Rattle.structured.proofs.Held.{limits_held, params_held, some_same}
+use Rattle.structured.specs.Ready.{AreLimited, IsKernel, Measures, measures_of}
+use Rattle.structured.proofs.Held.{Stands, limits_held, params_held, some_same, stands}
 
 -- what is known of the code of a normal form, of a flat kernel with so many variables
 pub record AreSizes (m : Measures) (code : KirCode) : Type 0 where
@@ -100,3 +102,19 @@ pub few_scalars : (program : List FunctionNode) → ∥ IsProgram program ∥₁
 few_scalars program typed number f at =
     let few : length f.params ≤ 16 = params_held program typed number f at in
     let some : count_by is_scalar f.params ≤ length f.params = count_by-le-length is_scalar f.params in omega arith
+
+-- ---- what the passes owe of the kernel that they are given
+
+pub normal_fits : (program : List FunctionNode) → ∥ IsProgram program ∥₁ → (number : ℕ) → IsKernel program number → measured own_depth program number ≤ 2 ^ 31
+    → (flat : FlatKernel) → flat_at program number ≡ Some flat → (normal_kernel flat).variables < 2 ^ 32
+normal_fits program typed number kernel few flat expanded =
+    let there : Stands program number = stands program number kernel in
+    let same : flat ≡ kernel_flat program number there.kernel = flat_is program number flat expanded there.kernel there.at in
+    subst (λ (x : FlatKernel). (normal_kernel x).variables < 2 ^ 32) (sym same) (normal_numbers program typed number there.kernel there.at there.marked few)
+
+pub flagged_fits : (program : List FunctionNode) → ∥ IsProgram program ∥₁ → (number : ℕ) → IsKernel program number → measured own_depth program number ≤ 2 ^ 31
+    → (flat : FlatKernel) → flat_at program number ≡ Some flat → (code : KirCode) → code ≡ normal_kernel flat → (flags code).variables < 2 ^ 32
+flagged_fits program typed number kernel few flat expanded code normal =
+    let there : Stands program number = stands program number kernel in
+    let same : flat ≡ kernel_flat program number there.kernel = flat_is program number flat expanded there.kernel there.at in
+    subst (λ (x : KirCode). (flags x).variables < 2 ^ 32) (sym (normal ∙ ap normal_kernel same)) (flagged_numbers program typed number there.kernel there.at there.marked few)

@@ -1,7 +1,6 @@
 -- The code of the three passes does as the source and is ready.
-use Rattle.std.proofs.Common.{◌≡◌, refl, sym, ap, ◌∙◌, subst, ℕ, ◌≤◌, true, List, length, Some, slice_get, arith}
+use Rattle.std.proofs.Common.{◌≡◌, sym, ap, ◌∙◌, subst, ℕ, ◌≤◌, true, List, length, Some, slice_get, arith}
 use Rattle.std.specs.Prelude.{count_by}
-use Rattle.kir.specs.Measures.{sites}
 use Rattle.kir.specs.Trees.{KirCode}
 use Rattle.kir_flow.proofs.FlagsKeep.{flags_keep}
 use Rattle.kir_flow.specs.Flagging.{flags}
