@@ -159,9 +159,12 @@ launches_keep_to_arrays launched buffers locals room constant none = record {
 }
 
 pub tame_are_orderly : TameAreOrderly
-tame_are_orderly launched buffers locals room positive given tame = (tame.0, record {
-  settled = launches_settle launched buffers locals;
-  positive = positive;
-  tame = tame.1;
-  bounds = launches_stay_in_bounds launched buffers locals room given;
-})
+tame_are_orderly launched buffers locals room positive given tame = (
+  tame.0,
+  record {
+    settled = launches_settle launched buffers locals;
+    positive = positive;
+    tame = tame.1;
+    bounds = launches_stay_in_bounds launched buffers locals room given;
+  },
+)
