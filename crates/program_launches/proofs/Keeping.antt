@@ -12,7 +12,7 @@ use Rattle.item_acts.specs.declared.acts.Action.TheVariants.{Load, Store, Barrie
 use Rattle.item_acts.specs.declared.acts.Bound.{Bound}
 use Rattle.item_acts.specs.declared.acts.Place.{Place}
 use Rattle.item_acts.specs.declared.acts.Place.TheVariants.{Global, Local}
-use Rattle.item_acts.specs.Launches.{Launch, ItemAsks, IsInside, group_of}
+use Rattle.item_acts.specs.Launches.{Launch, ItemAsks, IsInside}
 use Rattle.item_acts.specs.OneResult.{IsWithin}
 use Rattle.ocl_ast.specs.declared.units.Param.{Param}
 use Rattle.ocl_program.specs.declared.exprs.ArrayRef.{ArrayRef}
@@ -24,7 +24,7 @@ use Rattle.ocl_sem.specs.Items.{IsElement, IsInArrays}
 use Rattle.ocl_sem.specs.Launched.{Launched, launched_settles}
 use Rattle.ocl_sem.specs.Settings.{setting_of}
 use Rattle.ocl_sem.proofs.InArrays.{stays_in_arrays}
-use Rattle.program_launches.specs.Launches.{AreConstant, EndsWithin, HasArrays, array_named, is_changeable, is_changed, is_unchanged, launch_over}
+use Rattle.program_launches.specs.Launches.{AreConstant, EndsWithin, HasArrays, array_named, is_changeable, is_changed, launch_over}
 use Rattle.program_launches.specs.Laws.{LaunchesKeepToArrays, LaunchesSettle, LaunchesStayInBounds, TameAreOrderly, UnchangedAreConstant}
 
 -- ---- bytes of elements
