@@ -1,5 +1,5 @@
 //! Laws of launches of kernels of typed functions, each as a contract. The functions themselves do nothing.
-ghost use Rattle.program_launches.specs.Laws.{LaunchesKeepToArrays, LaunchesSettle, LaunchesStayInBounds, TameAreOrderly, UnchangedAreConstant};
+ghost use Rattle.program_launches.specs.Laws.{DeclaredAreThere, LaunchesKeepToArrays, LaunchesSettle, LaunchesStayInBounds, TameAreOrderly, UnchangedAreConstant};
 
 /// More small steps never change what an item of a launch asks for.
 pub fn launches_settle()
@@ -21,4 +21,9 @@ pub fn launches_keep_to_arrays()
 /// There a launch with items in its groups is orderly, once it is tame.
 pub fn tame_are_orderly()
     ensures { TameAreOrderly }
+{}
+
+/// In a launch of a kernel of a file each array is there that the kernel declares, behind those of its `__local` parameters.
+pub fn declared_are_there()
+    ensures { DeclaredAreThere }
 {}
