@@ -82,11 +82,10 @@ fn actions_of(alloc: Global, code: &Kir, item: u32) -> Result<String, Fail> {
 fn flags_ask_alike(rt: HostRuntime) -> Result<(), Fail> {
     let alloc = rt.alloc();
     let code = kernel(alloc)?;
-    let same = kernel(alloc)?;
-    if !fits(&same) {
+    if !fits(&code) {
         return Err("too many flags".into());
     }
-    let made = flags(alloc, same)?;
+    let made = flags(alloc, &code)?;
     for (item, lines) in [(0, 3), (3, 3)] {
         let actions = actions_of(alloc, &code, item)?;
         assert_eq!(rt; actions.as_str().lines().count(), lines, "{item}");
