@@ -345,10 +345,8 @@ fn count_tokens(alloc: Global, marks: usize) -> Result<Result<usize, u32>, Alloc
 #[test]
 fn counts_tokens_and_uses(rt: HostRuntime) -> Result<(), Fail> {
     // (65,535 times 15 tokens, the `;` and the end)
-    assert_eq!(rt; count_tokens(rt.alloc(), 14)?, Ok(983_040));
     assert_eq!(rt; count_tokens(rt.alloc(), 15)?, Ok(983_041));
     assert_eq!(rt; count_tokens(rt.alloc(), 16)?, Err(131_087));
-    assert_eq!(rt; count_tokens(rt.alloc(), 17)?, Err(131_087));
     Ok(())
 }
 

@@ -1,13 +1,10 @@
-use item_acts::{Action, Asked, Bound, BoundList, Range};
+use crate::form_kernels::kernel;
+use crate::shared::bounds_of;
+use item_acts::{Action, Asked, Range};
 use kir::{Kir, Op, Operand, kir_next, loop_op};
 use kir_flow::{fits, flags};
-use ocl_ast::{Ident, Param, ParamList};
 use std::alloc::{AllocError, Global};
 use std::test::Fail;
-use vx_base::{Elem, ListOf, ParamKind, Pos, Space};
-
-/// A place that does not matter.
-const SOMEWHERE: Pos = Pos { line: 1, col: 1 };
 
 /// Four work-items in one group.
 const FOUR: Range = Range {
@@ -16,36 +13,8 @@ const FOUR: Range = Range {
     local: [4, 1, 1],
 };
 
-/// `__global int *a`
-fn params(alloc: Global) -> Result<ParamList, AllocError> {
-    let items = vec![in alloc;
-        Param {
-            name: Ident {
-                text: ListOf {
-                    items: Vec::new(alloc),
-                },
-                pos: SOMEWHERE,
-            },
-            kind: ParamKind::Pointer {
-                space: Space::Global,
-                elem: Elem::Int,
-                readonly: false,
-            },
-            constant: false,
-        },
-    ]?;
-    Ok(ListOf { items })
-}
-
-/// Four elements of buffer 0.
-fn bounds(alloc: Global) -> Result<BoundList, AllocError> {
-    let items = vec![in alloc; Bound::Array { place: 0, count: 4 }]?;
-    Ok(ListOf { items })
-}
-
 /// A barrier, an endless loop that a `break` leaves behind another barrier, and a `return`, behind which no item comes.
-fn kernel(alloc: Global) -> Result<Kir, AllocError> {
-    let params = params(alloc)?;
+fn jumping_kernel(alloc: Global) -> Result<Kir, AllocError> {
     let leave = vec![in alloc; Op::Barrier { site: 3 }, Op::Break, Op::Barrier { site: 4 }]?;
     let endless = loop_op(Vec::new(alloc), Operand::Number(6), leave, Vec::new(alloc));
     let ops = vec![in alloc;
@@ -54,17 +23,12 @@ fn kernel(alloc: Global) -> Result<Kir, AllocError> {
         Op::Return,
         Op::Barrier { site: 2 },
     ]?;
-    Ok(Kir {
-        params,
-        arrays: Vec::new(alloc),
-        variables: 3,
-        ops,
-    })
+    kernel(alloc, Vec::new(alloc), 3, ops)
 }
 
 /// What an item asks for one after another, as it is written.
 fn actions_of(alloc: Global, code: &Kir, item: u32) -> Result<String, Fail> {
-    let bound = bounds(alloc)?;
+    let bound = bounds_of(alloc, 0, 4)?;
     let mut answers = Vec::new(alloc);
     let mut log = String::new(alloc);
     for _ in 0..8 {
@@ -81,12 +45,11 @@ fn actions_of(alloc: Global, code: &Kir, item: u32) -> Result<String, Fail> {
 #[test]
 fn flags_ask_alike(rt: HostRuntime) -> Result<(), Fail> {
     let alloc = rt.alloc();
-    let code = kernel(alloc)?;
-    let same = kernel(alloc)?;
-    if !fits(&same) {
+    let code = jumping_kernel(alloc)?;
+    if !fits(&code) {
         return Err("too many flags".into());
     }
-    let made = flags(alloc, same)?;
+    let made = flags(alloc, &code)?;
     for (item, lines) in [(0, 3), (3, 3)] {
         let actions = actions_of(alloc, &code, item)?;
         assert_eq!(rt; actions.as_str().lines().count(), lines, "{item}");

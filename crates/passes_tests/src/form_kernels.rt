@@ -18,10 +18,10 @@ pub(crate) mod squares;
 const SOMEWHERE: Pos = Pos { line: 1, col: 1 };
 
 /// The buffer of the kernel.
-const BUFFER: ArrayRef = ArrayRef::Parameter(0);
+pub(crate) const BUFFER: ArrayRef = ArrayRef::Parameter(0);
 
 /// An item's number in the launch.
-const OWN: Operand = Operand::Variable(0);
+pub(crate) const OWN: Operand = Operand::Variable(0);
 
 /// What an operation gives, into a variable.
 fn calculate(variable: u32, op: Alu, left: Operand, right: Operand) -> Op {
@@ -98,7 +98,7 @@ fn params(alloc: Global) -> Result<ParamList, AllocError> {
 }
 
 /// A kernel of these operations.
-fn kernel(
+pub(crate) fn kernel(
     alloc: Global,
     arrays: Vec<LocalArray>,
     variables: u32,

@@ -2,7 +2,8 @@
 //! as structured code made by hand. Their work-items are run side by side over plain lists of bytes, and ask for the same, one
 //! action after another.
 use crate::form_kernels::{collatz, early_return, nested, power, reduction, skipped, squares};
-use item_acts::{Action, Asked, Bound, BoundList, ItemCode, Place, Range};
+use crate::shared::{EIGHT, bounds_of, load, memory_of, program_of, store, words_in};
+use item_acts::{Action, Asked, ItemCode};
 use kir::{Kir, KirItems};
 use kir_flow::flags;
 use ocl_inline::{Flat, expand};
@@ -11,47 +12,9 @@ use ocl_norm::normalise;
 use std::alloc::{AllocError, Global};
 use std::process::Abort;
 use std::test::Fail;
-use vx_base::{ListOf, Size, get_le, put_le};
-use vx_cc::front;
-
-/// Eight work-items in groups of four.
-const EIGHT: Range = Range {
-    dims: 1,
-    global: [8, 1, 1],
-    local: [4, 1, 1],
-};
 
 /// How many small steps may lead to the next action.
 const STEPS: u64 = 20_000;
-
-/// Where a byte of buffer 0, or of a local array of a group, stands in the list.
-fn address_of(place: Place) -> usize {
-    match place {
-        Place::Global { byte, .. } => byte as usize,
-        Place::Local { group, array, byte } => {
-            1024 + group as usize * 512 + array as usize * 64 + byte as usize
-        }
-    }
-}
-
-fn load(memory: &[u8], place: Place, size: Size) -> Result<u32, Fail> {
-    let at = address_of(place);
-    match memory.len().checked_sub(size.bytes() as usize) {
-        Some(last) if at <= last => Ok(get_le(memory, at, size)),
-        _ => Err("no such place".into()),
-    }
-}
-
-fn store(memory: &mut [u8], place: Place, size: Size, value: u32) -> Result<(), Fail> {
-    let at = address_of(place);
-    match memory.len().checked_sub(size.bytes() as usize) {
-        Some(last) if at <= last => {
-            put_le(memory, at, size, value);
-            Ok(())
-        }
-        _ => Err("no such place".into()),
-    }
-}
 
 /// A work-item on its way.
 #[derive(Drop)]
@@ -96,21 +59,8 @@ fn go<I: ItemCode>(
     Err("too many actions".into())
 }
 
-/// Eight words that count from 1, and zeros behind them.
-fn counted() -> Result<[u8; 2048], Fail> {
-    let mut memory = [0_u8; 2048];
-    for k in 0..8_u32 {
-        let place = Place::Global {
-            buffer: 0,
-            byte: k * 4,
-        };
-        store(&mut memory, place, Size::Four, k + 1)?;
-    }
-    Ok(memory)
-}
-
-/// What all items ask for, one after another up to their next barriers.
-fn actions_over<I: ItemCode>(alloc: Global, items: &I, memory: &mut [u8]) -> Result<String, Fail> {
+/// Eight items before their first steps.
+fn ways_of(alloc: Global) -> Result<Vec<Way>, AllocError> {
     let mut ways = Vec::new(alloc);
     for _ in 0..8 {
         ways.push(Way {
@@ -118,43 +68,26 @@ fn actions_over<I: ItemCode>(alloc: Global, items: &I, memory: &mut [u8]) -> Res
             over: false,
         })?;
     }
+    Ok(ways)
+}
+
+/// What all items ask for over the words that count from 1, one after another up to their next barriers, and in the last line the
+/// words behind all of it.
+fn actions_of<I: ItemCode>(alloc: Global, items: &I) -> Result<String, Fail> {
+    let mut memory = memory_of([1, 2, 3, 4, 5, 6, 7, 8])?;
+    let mut ways = ways_of(alloc)?;
     let mut log = String::new(alloc);
     for _ in 0..9 {
         for number in 0..8_u32 {
             let way = ways.get_mut(number as usize).ok_or("no such item")?;
             if !way.over {
-                go(alloc, items, number, way, memory, &mut log)?;
+                go(alloc, items, number, way, &mut memory, &mut log)?;
             }
         }
     }
+    let words = words_in(&memory)?;
+    log.push_str(format!(in alloc; "{words:?}")?.as_str())?;
     Ok(log)
-}
-
-/// The same over the words that count from 1.
-fn actions_of<I: ItemCode>(alloc: Global, items: &I) -> Result<String, Fail> {
-    let mut memory = counted()?;
-    actions_over(alloc, items, &mut memory)
-}
-
-/// The eight words behind all that the items do.
-fn words_behind<I: ItemCode>(alloc: Global, items: &I) -> Result<[u32; 8], Fail> {
-    let mut memory = counted()?;
-    actions_over(alloc, items, &mut memory)?;
-    let mut words = [0; 8];
-    for k in 0..8_u32 {
-        let place = Place::Global {
-            buffer: 0,
-            byte: k * 4,
-        };
-        words[k as usize] = load(&memory, place, Size::Four)?;
-    }
-    Ok(words)
-}
-
-/// Buffer 0 of eight elements, for the one parameter of each kernel.
-fn bounds(alloc: Global) -> Result<BoundList, AllocError> {
-    let items = vec![in alloc; Bound::Array { place: 0, count: 8 }]?;
-    Ok(ListOf { items })
 }
 
 /// The items of structured code.
@@ -162,7 +95,7 @@ fn items_of_code(alloc: Global, code: &Kir) -> Result<KirItems<'_>, AllocError> 
     Ok(KirItems {
         code,
         range: EIGHT,
-        bounds: bounds(alloc)?,
+        bounds: bounds_of(alloc, 0, 8)?,
     })
 }
 
@@ -180,8 +113,8 @@ fn normal_of(alloc: Global, flat: &Flat) -> Result<Kir, Fail> {
 }
 
 /// Structured code with flags in place of jumps.
-fn flagged_of(alloc: Global, code: Kir) -> Result<Kir, Fail> {
-    if !kir_flow::fits(&code) {
+fn flagged_of(alloc: Global, code: &Kir) -> Result<Kir, Fail> {
+    if !kir_flow::fits(code) {
         return Err("too many flags".into());
     }
     Ok(flags(alloc, code)?)
@@ -194,40 +127,32 @@ struct Actions {
     flat: String,
     normal: String,
     flagged: String,
-    /// The words behind all that is done with flags.
-    words: [u32; 8],
 }
 
 /// What the items of the kernel `k` of a text ask for in each form that is made of it.
 fn actions_of_text(alloc: Global, text: &str) -> Result<Actions, Fail> {
-    let source = text.as_bytes();
-    if source.len() > 1_048_576 {
-        return Err("too long".into());
-    }
-    let program = front(alloc, source)?;
+    let program = program_of(alloc, text)?;
     let kernel = program.find(b"k").ok_or("no kernel")?;
-    let bound = bounds(alloc)?;
+    let bound = bounds_of(alloc, 0, 8)?;
     if !fits(&program, kernel, &bound) {
         return Err("another parameter".into());
     }
     let source = actions_of(alloc, &items_of(&program, kernel, EIGHT, bound))?;
     let tree = expand(alloc, &program, kernel)?;
-    let bound = bounds(alloc)?;
+    let bound = bounds_of(alloc, 0, 8)?;
     if !fits(&program, kernel, &bound) {
         return Err("another parameter".into());
     }
     let flat = actions_of(alloc, &flat_items_of(&program, kernel, &tree, EIGHT, bound))?;
     let code = normal_of(alloc, &tree)?;
     let normal = actions_of_code(alloc, &code)?;
-    let code = flagged_of(alloc, code)?;
+    let code = flagged_of(alloc, &code)?;
     let flagged = actions_of_code(alloc, &code)?;
-    let words = words_behind(alloc, &items_of_code(alloc, &code)?)?;
     Ok(Actions {
         source,
         flat,
         normal,
         flagged,
-        words,
     })
 }
 
@@ -240,7 +165,11 @@ fn compare_forms(
 ) -> Result<Actions, Fail> {
     let actions = actions_of_text(alloc, text)?;
     let source = actions.source.as_str();
-    assert_eq!(rt; source.lines().count(), count, "{text}");
+    assert_eq!(rt;
+        source.lines().count().checked_sub(1),
+        Some(count),
+        "{text}"
+    );
     assert_eq!(rt; actions.flat.as_str(), source, "{text}");
     assert_eq!(rt; actions.normal.as_str(), source, "{text}");
     assert_eq!(rt; actions.flagged.as_str(), source, "{text}");
@@ -271,6 +200,6 @@ fn forms_ask_alike(rt: HostRuntime) -> Result<(), Fail> {
 #[test]
 fn nested_jumps_ask_alike(rt: HostRuntime) -> Result<(), Fail> {
     let actions = compare_forms(&rt, rt.alloc(), nested::TEXT, nested::COUNT)?;
-    assert_eq!(rt; actions.words, nested::WORDS);
+    assert_eq!(rt; actions.source.lines().last(), Some(nested::WORDS));
     Ok(())
 }

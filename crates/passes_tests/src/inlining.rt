@@ -1,21 +1,11 @@
+use crate::shared::program_of;
 use ocl_inline::{Binding, Flat, FlatArgument, FlatExpr, FlatStmt, expand};
-use ocl_types::Program;
 use std::alloc::Global;
 use std::test::Fail;
-use vx_cc::front;
 
 /// A kernel that calls a helper twice; the helper has two variables and a barrier.
 const TWICE: &str = "int turn(int n, __global int *p) { int m = p[n]; barrier(1); return m + n; }
     __kernel void k(__global int *a, int x) { int y = turn(x, a) + turn(2, a); a[0] = y; }";
-
-/// The program of a text.
-fn program_of(alloc: Global, text: &str) -> Result<Program, Fail> {
-    let source = text.as_bytes();
-    if source.len() > 1_048_576 {
-        return Err("too long".into());
-    }
-    Ok(front(alloc, source)?)
-}
 
 /// The kernel `k` of a text, expanded.
 fn flat_of(alloc: Global, text: &str) -> Result<Flat, Fail> {

@@ -1,20 +1,13 @@
 //! Worked kernels, item by item, over a plain list of bytes.
 
-use item_acts::{Action, Asked, Bound, Place, Range};
+use crate::shared::{EIGHT, bounds_of, load, memory_of, program_of, store, words_in};
+use item_acts::{Action, Asked};
 use ocl_launch::{fits, items_of};
 use ocl_sem::Item;
 use ocl_types::Program;
 use std::alloc::Global;
 use std::test::Fail;
-use vx_base::{ListOf, Pos, Size, get_le, put_le};
-use vx_cc::front;
-
-/// Eight work-items in groups of four.
-const EIGHT: Range = Range {
-    dims: 1,
-    global: [8, 1, 1],
-    local: [4, 1, 1],
-};
+use vx_base::Pos;
 
 /// How an item stands once it can go no further alone.
 #[derive(Clone, Copy, Debug, PartialEq, Eq)]
@@ -22,35 +15,6 @@ enum Standing {
     Waits,
     Ended,
     Faulted(Pos),
-}
-
-/// Where a byte of buffer 0, or of a local array of a group, stands in the list.
-fn address_of(place: Place) -> usize {
-    match place {
-        Place::Global { byte, .. } => byte as usize,
-        Place::Local { group, array, byte } => {
-            1024 + group as usize * 512 + array as usize * 64 + byte as usize
-        }
-    }
-}
-
-fn load(memory: &[u8], place: Place, size: Size) -> Result<u32, Fail> {
-    let at = address_of(place);
-    match memory.len().checked_sub(size.bytes() as usize) {
-        Some(last) if at <= last => Ok(get_le(memory, at, size)),
-        _ => Err("no such place".into()),
-    }
-}
-
-fn store(memory: &mut [u8], place: Place, size: Size, value: u32) -> Result<(), Fail> {
-    let at = address_of(place);
-    match memory.len().checked_sub(size.bytes() as usize) {
-        Some(last) if at <= last => {
-            put_le(memory, at, size, value);
-            Ok(())
-        }
-        _ => Err("no such place".into()),
-    }
 }
 
 /// Lets an item go on until it waits, ends or faults.
@@ -80,22 +44,11 @@ fn go(alloc: Global, item: &mut Item, memory: &mut [u8]) -> Result<Standing, Fai
 /// An item of the launch of the kernel `k` over an array of eight elements.
 fn item_of(alloc: Global, program: &Program, number: u32) -> Result<Item<'_>, Fail> {
     let kernel = program.find(b"k").ok_or("no kernel")?;
-    let mut items = Vec::new(alloc);
-    items.push(Bound::Array { place: 0, count: 8 })?;
-    let bounds = ListOf { items };
+    let bounds = bounds_of(alloc, 0, 8)?;
     if !fits(program, kernel, &bounds) {
         return Err("another parameter".into());
     }
     Ok(Item::start(alloc, items_of(program, kernel, EIGHT, bounds), number))
-}
-
-/// The program of a text.
-fn program_of(alloc: Global, text: &str) -> Result<Program, Fail> {
-    let source = text.as_bytes();
-    if source.len() > 1_048_576 {
-        return Err("too long".into());
-    }
-    Ok(front(alloc, source)?)
 }
 
 /// Lets each item go on to its next barrier. Whether one waits there.
@@ -109,21 +62,10 @@ fn go_all(alloc: Global, items: &mut [Item], memory: &mut [u8]) -> Result<bool, 
     Ok(waits)
 }
 
-/// Word k of buffer 0.
-fn word_at(k: u32) -> Place {
-    Place::Global {
-        buffer: 0,
-        byte: k.wrapping_mul(4),
-    }
-}
-
 /// What the kernel `k` of a text makes of eight words: all items go on to their next barriers, until none waits.
 fn words_after(alloc: Global, text: &str, words: [u32; 8]) -> Result<[u32; 8], Fail> {
     let program = program_of(alloc, text)?;
-    let mut memory = [0_u8; 2048];
-    for k in 0..8_u32 {
-        store(&mut memory, word_at(k), Size::Four, words[k as usize])?;
-    }
+    let mut memory = memory_of(words)?;
     let mut items = Vec::new(alloc);
     for number in 0..8_u32 {
         items.push(item_of(alloc, &program, number)?)?;
@@ -133,11 +75,7 @@ fn words_after(alloc: Global, text: &str, words: [u32; 8]) -> Result<[u32; 8], F
             break;
         }
     }
-    let mut after = [0; 8];
-    for k in 0..8_u32 {
-        after[k as usize] = load(&memory, word_at(k), Size::Four)?;
-    }
-    Ok(after)
+    words_in(&memory)
 }
 
 const COUNTED: [u32; 8] = [1, 2, 3, 4, 5, 6, 7, 8];

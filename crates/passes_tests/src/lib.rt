@@ -4,7 +4,7 @@
 //! with values from outside, and that a call comes to an end with its answer. Read first `forms`: worked kernels in five
 //! forms, whose items ask for the same.
 //!
-//! - `forms` tests all passes together, on the kernels of `form_kernels`.
+//! - `forms` tests all passes together, on the kernels of `form_kernels`; `shared` has what other modules share.
 //! - `launches` tests `ocl_launch`, `inlining` `ocl_inline`, `structured` `kir`, `normal_forms` `ocl_norm`, and `flagged`
 //!   `kir_flow`.
 #![tactic(auto)]
@@ -21,5 +21,7 @@ mod inlining;
 mod launches;
 #[cfg(test)]
 mod normal_forms;
+#[cfg(test)]
+mod shared;
 #[cfg(test)]
 mod structured;

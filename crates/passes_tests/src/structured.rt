@@ -1,42 +1,14 @@
-use item_acts::{Action, Asked, Bound, BoundList, ItemCode, Place, Range};
+use crate::form_kernels::{BUFFER, OWN, kernel};
+use crate::shared::bounds_of;
+use item_acts::{Action, Asked, ItemCode, Place, Range};
 use kir::{Kir, KirItems, Op, Operand, call_op, if_op, kir_next, loop_op};
-use ocl_ast::{Ident, Param, ParamList};
-use ocl_program::{ArrayRef, Builtin};
+use ocl_program::Builtin;
 use std::alloc::{AllocError, Global};
 use std::test::Fail;
-use vx_base::{Alu, Elem, ListOf, ParamKind, Pos, Size, Space};
-
-/// A place that does not matter.
-const SOMEWHERE: Pos = Pos { line: 1, col: 1 };
-
-/// The array of the kernel.
-const ARRAY: ArrayRef = ArrayRef::Parameter(0);
-
-/// Its own number, which an item has in variable 0.
-const OWN: Operand = Operand::Variable(0);
+use vx_base::{Alu, Elem, Pos, Size};
 
 /// What an item counts, in variable 1.
 const COUNT: Operand = Operand::Variable(1);
-
-/// `__global int *a`
-fn params(alloc: Global) -> Result<ParamList, AllocError> {
-    let mut items = Vec::new(alloc);
-    items.push(Param {
-        name: Ident {
-            text: ListOf {
-                items: Vec::new(alloc),
-            },
-            pos: SOMEWHERE,
-        },
-        kind: ParamKind::Pointer {
-            space: Space::Global,
-            elem: Elem::Int,
-            readonly: false,
-        },
-        constant: false,
-    })?;
-    Ok(ListOf { items })
-}
 
 /// One operation.
 fn one(alloc: Global, op: Op) -> Result<Vec<Op>, AllocError> {
@@ -68,7 +40,7 @@ fn turn(alloc: Global) -> Result<Vec<Op>, AllocError> {
 }
 
 /// Counts up to the item's number in a call, and stores the count to the item's element.
-fn kernel(alloc: Global) -> Result<Kir, AllocError> {
+fn counting_kernel(alloc: Global) -> Result<Kir, AllocError> {
     let mut ops = one(
         alloc,
         Op::Id {
@@ -82,34 +54,21 @@ fn kernel(alloc: Global) -> Result<Kir, AllocError> {
     let inside = one(alloc, endless)?;
     ops.push(call_op(inside))?;
     ops.push(Op::Check {
-        array: ARRAY,
+        array: BUFFER,
         index: OWN,
         pos: Pos { line: 1, col: 40 },
     })?;
     ops.push(Op::Store {
-        array: ARRAY,
+        array: BUFFER,
         elem: Elem::Int,
         index: OWN,
         value: COUNT,
     })?;
-    let params = params(alloc)?;
-    Ok(Kir {
-        params,
-        arrays: Vec::new(alloc),
-        variables: 3,
-        ops,
-    })
-}
-
-/// Four elements of buffer 7.
-fn bounds(alloc: Global) -> Result<BoundList, AllocError> {
-    let mut items = Vec::new(alloc);
-    items.push(Bound::Array { place: 7, count: 4 })?;
-    Ok(ListOf { items })
+    kernel(alloc, Vec::new(alloc), 3, ops)
 }
 
 /// Eight work-items in groups of two.
-const EIGHT: Range = Range {
+const PAIRS: Range = Range {
     dims: 1,
     global: [8, 1, 1],
     local: [2, 1, 1],
@@ -118,9 +77,9 @@ const EIGHT: Range = Range {
 #[test]
 fn an_item_stores_what_it_counts(rt: HostRuntime) -> Result<(), Fail> {
     let alloc = rt.alloc();
-    let code = kernel(alloc)?;
-    let bounds = bounds(alloc)?;
-    let asked = kir_next(alloc, &code, EIGHT, &bounds, 3, &[], 100);
+    let code = counting_kernel(alloc)?;
+    let bounds = bounds_of(alloc, 7, 4)?;
+    let asked = kir_next(alloc, &code, PAIRS, &bounds, 3, &[], 100);
     assert!(rt;
         matches!(
             &asked,
@@ -134,7 +93,7 @@ fn an_item_stores_what_it_counts(rt: HostRuntime) -> Result<(), Fail> {
             }))
         )
     );
-    let ended = kir_next(alloc, &code, EIGHT, &bounds, 3, &[0], 100);
+    let ended = kir_next(alloc, &code, PAIRS, &bounds, 3, &[0], 100);
     assert!(rt; matches!(&ended, Ok(Asked::Act(Action::End))));
     Ok(())
 }
@@ -142,11 +101,11 @@ fn an_item_stores_what_it_counts(rt: HostRuntime) -> Result<(), Fail> {
 #[test]
 fn an_item_stops_outside_its_array(rt: HostRuntime) -> Result<(), Fail> {
     let alloc = rt.alloc();
-    let code = kernel(alloc)?;
+    let code = counting_kernel(alloc)?;
     let items = KirItems {
         code: &code,
-        range: EIGHT,
-        bounds: bounds(alloc)?,
+        range: PAIRS,
+        bounds: bounds_of(alloc, 7, 4)?,
     };
     let asked = items.next(alloc, 5, &[], 100);
     assert!(rt;

@@ -53,4 +53,4 @@ pub(crate) const TEXT: &str = "
 pub(crate) const COUNT: usize = 289;
 
 /// What they leave in the buffer, by the same C program.
-pub(crate) const WORDS: [u32; 8] = [46, 57, 54, 57, 58, 44, 42, 41];
+pub(crate) const WORDS: &str = "[46, 57, 54, 57, 58, 44, 42, 41]";
