@@ -1,5 +1,5 @@
 -- Which machines there are, which launches can be checked, and where a launch's buffers and arrays lie.
-use Rattle.std.specs.Prelude.{◌≡◌, ℕ, zero, suc, ◌+◌, ◌*◌, ◌%◌, ◌^◌, ◌<◌, ◌≤◌, max, List, [], ◌∷◌, length, map, slice_get, slice_index, Option, None, Some}
+use Rattle.std.specs.Prelude.{◌≡◌, ℕ, suc, ◌+◌, ◌*◌, ◌%◌, ◌^◌, ◌<◌, ◌≤◌, max, List, [], ◌∷◌, length, map, slice_get, slice_index, Option, None, Some}
 use Rattle.vx_base.specs.Values.{elem_bytes}
 use Rattle.vx_base.specs.declared.types.ParamKind.{ParamKind}
 use Rattle.item_acts.specs.declared.acts.Bound.{Bound}

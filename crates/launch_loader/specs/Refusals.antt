@@ -4,8 +4,6 @@ use Rattle.vx_base.specs.declared.types.Elem.{Elem}
 use Rattle.vx_base.specs.declared.types.Elem.TheVariants.{Char, Uchar, Short, Ushort, Int, Uint}
 use Rattle.vx_base.specs.declared.types.ParamKind.{ParamKind}
 use Rattle.vx_base.specs.declared.types.ParamKind.TheVariants.{Scalar, Pointer}
-use Rattle.vx_base.specs.declared.types.Space.{Space}
-use Rattle.vx_base.specs.declared.types.Space.TheVariants as space
 use Rattle.item_acts.specs.declared.acts.Range.{Range}
 use Rattle.vx_layout.specs.Launching.{is_local, group_size, group_count}
 use Rattle.launch_loader.specs.declared.plans.Arg.{Arg}

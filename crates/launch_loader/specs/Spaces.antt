@@ -1,9 +1,9 @@
 -- Buffers that a launch names as `__constant` and as `__global`.
 use Rattle.std.specs.Prelude.{◌≡◌, ℕ, ◌<◌, Bool, true, false, ◌&&◌, nat_eq, List, length, slice_get, Option, None, Some}
 use Rattle.vx_base.specs.declared.types.ParamKind.{ParamKind}
-use Rattle.vx_base.specs.declared.types.ParamKind.TheVariants.{Scalar, Pointer}
+use Rattle.vx_base.specs.declared.types.ParamKind.TheVariants.{Pointer}
 use Rattle.vx_base.specs.declared.types.Space.{Space}
-use Rattle.vx_base.specs.declared.types.Space.TheVariants.{Global, Constant, Local}
+use Rattle.vx_base.specs.declared.types.Space.TheVariants.{Global, Constant}
 use Rattle.launch_loader.specs.declared.plans.Arg.{Arg}
 use Rattle.launch_loader.specs.declared.plans.Arg.TheVariants.{Buffer}
 use Rattle.launch_loader.specs.declared.spaces.BufferUse.{BufferUse}

@@ -1,4 +1,4 @@
-use Rattle.std.proofs.Common.{rules, ◌≡◌, ◌+◌, true, false, Bool}
+use Rattle.std.proofs.Common.{rules, ◌≡◌, true}
 use Rattle.launch_loader.specs.Refusals.{fits_at}
 use Rattle.launch_loader.proofs.Steps.{one_more}
 use Rattle.launch_loader.proofs.arguments.first_misfit.Goals as goal

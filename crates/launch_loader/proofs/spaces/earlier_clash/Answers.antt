@@ -1,4 +1,4 @@
-use Rattle.std.proofs.Common.{rules, ◌≡◌, ◌+◌, true, false, Bool}
+use Rattle.std.proofs.Common.{rules, ◌≡◌, false}
 use Rattle.launch_loader.specs.Spaces.{clash_at}
 use Rattle.launch_loader.proofs.Steps.{one_more}
 use Rattle.launch_loader.proofs.spaces.earlier_clash.Goals as goal

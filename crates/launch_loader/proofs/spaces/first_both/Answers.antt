@@ -1,4 +1,4 @@
-use Rattle.std.proofs.Common.{rules, ◌≡◌, ◌+◌, ◌<◌, ℕ, true, false, Bool}
+use Rattle.std.proofs.Common.{rules, ◌≡◌, ◌<◌, ℕ, false}
 use Rattle.launch_loader.specs.Spaces.{clash_at}
 use Rattle.launch_loader.proofs.Steps.{one_more}
 use Rattle.launch_loader.proofs.spaces.first_both.Goals as goal
