@@ -1,4 +1,4 @@
-use Rattle.std.proofs.Common.{◌≡◌, ◌+◌, ◌++◌, ap, sym, ◌∙◌, append_assoc, arith}
+use Rattle.std.proofs.Common.{◌+◌, ◌++◌, ap, sym, ◌∙◌, append_assoc, arith}
 use Rattle.buf_text.specs.Lines.{behind_text, rest_text}
 use Rattle.buf_text.proofs.LineLaws.{rest_more}
 use Rattle.buf_text.proofs.lines.BufLines.push_rest.Goals as goal
