@@ -1,8 +1,8 @@
 -- Laws of bytes that are put into words.
-use Rattle.std.proofs.Common.{◌≡◌, ℕ, zero, suc, ◌+◌, ◌*◌, ◌/◌, ◌%◌, ◌^◌, ◌<◌, ◌≤◌, ◌⊎◌, List, [], ◌∷◌, ◌++◌, length, get_or, take, drop, set, length-append, ◌-◌, refl, ap, sym, subst, ◌∙◌, inl, inr, arith}
+use Rattle.std.proofs.Common.{◌≡◌, ℕ, zero, suc, ◌+◌, ◌*◌, ◌/◌, ◌%◌, ◌<◌, ◌≤◌, ◌⊎◌, List, [], ◌∷◌, ◌++◌, length, get_or, take, drop, set, length-append, ◌-◌, refl, ap, sym, subst, ◌∙◌, inl, inr, arith}
 use Rattle.std.proofs.lemmas.Bool.{cases_eq, cases_lt}
-use Rattle.std.proofs.lemmas.List.{get_or-set_same, get_or-set_other, get_or_append_left, get_or-append_right, length-set, length-take-le, length-drop, get_or-take, get_or-drop, take_more, take-append-drop}
-use Rattle.vx_base.specs.Bytes.{byte_of, number_of, field_of}
+use Rattle.std.proofs.lemmas.List.{get_or-set_same, get_or-set_other, get_or_append_left, get_or-append_right, length-set, take-append-drop}
+use Rattle.vx_base.specs.Bytes.{byte_of, field_of}
 use Rattle.vx_base.proofs.NumberLaws.{byte_of-lt, byte_of-number_of}
 use Rattle.buf_text.specs.Elements.{byte_in, HasBytes}
 

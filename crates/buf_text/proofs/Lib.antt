@@ -1,1 +1,2 @@
 pub mod HasBytes
+pub mod LineLaws

@@ -4,7 +4,9 @@
 //! Read first `specs/Elements.antt` for the bytes of words, then [`load`].
 #![tactic(auto)]
 
+pub mod lines;
 pub mod loading;
 pub mod word_bytes;
 
+pub use lines::BufLines;
 pub use loading::{LengthFault, load};
