@@ -1,6 +1,6 @@
 -- The law of bytes of one core: what a read answers, and how the words end, where no other core came between. A core knows no
 -- more of the others' writes.
-use Rattle.std.specs.Prelude.{◌≡◌, ◌≢◌, ℕ, suc, ◌+◌, ◌-◌, ◌*◌, ◌/◌, ◌%◌, ◌<◌, ◌≤◌, Bool, true, false, ◌&&◌, nat_le, nat_lt, if◌then◌else◌, List, [], ◌∷◌, length, take, slice_get, slice_index, Option, Some, None}
+use Rattle.std.specs.Prelude.{◌≡◌, ◌≢◌, ℕ, suc, ◌+◌, ◌-◌, ◌*◌, ◌/◌, ◌%◌, ◌<◌, ◌≤◌, Bool, true, false, ◌&&◌, nat_le, nat_lt, if◌then◌else◌, List, [], ◌∷◌, length, take, slice_get, slice_index, Some}
 use Rattle.vx_base.specs.Bytes.{byte_of, bytes_of}
 use Rattle.vx_base.specs.declared.types.Size.{Size}
 use Rattle.memory_banks.specs.declared.entry.BusEntry.{BusEntry}
