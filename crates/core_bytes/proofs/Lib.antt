@@ -1,6 +1,9 @@
+pub mod ByteChanges
+pub mod CarriedBytes
 pub mod Covariant
 pub mod Entries
 pub mod GroupDeeds
 pub mod PortLists
+pub mod QuietEntries
 pub mod Rising
 pub mod Worked
