@@ -127,7 +127,7 @@ load_answer : (words : List ℕ) (b : ℕ) (kind : BusKind) (word answer : ℕ) 
 load_answer words b kind word answer is load here =
     ap (λ (x : ℕ). byte_of x (b % 4)) (is ∙ (ap (λ (x : BusKind). answer_to x (slice_index words word)) load ∙ ap (slice_index words) here))
 
-byte_below : (words : List ℕ) (b : ℕ) → byte_in words b < 256
+pub byte_below : (words : List ℕ) (b : ℕ) → byte_in words b < 256
 byte_below words b = mod_below (slice_index words (b / 4) / 256 ^ (b % 4)) 256 (omega arith)
 
 quiet_one : (port b : ℕ) (words : List ℕ) (e : BusEntry) → nat_eq e.port port ≡ false → (e.port ≡ port) ⊎ IsQuiet b e → entry_byte b e (byte_in words b) ≡ byte_in words b

@@ -1,0 +1,9 @@
+//! Laws of the definitions, each carried by a function that does nothing.
+
+ghost use Rattle.core_bytes.specs.ByteLaws.{EveryByteEnds};
+
+/// Where every core gives up its oldest line: a byte that no other core writes ends as the core's own deeds leave it, for
+/// every number of sets, ways and waiting changes.
+pub fn ends_own()
+    ensures { EveryByteEnds }
+{}
