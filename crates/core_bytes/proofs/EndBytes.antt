@@ -1,13 +1,12 @@
 -- A byte that no other core writes ends as the core's own deeds leave it.
-use Rattle.std.proofs.Common.{◌≡◌, ◌≢◌, ℕ, suc, ◌+◌, ◌-◌, ◌*◌, ◌/◌, ◌%◌, ◌^◌, ◌<◌, ◌≤◌, true, false, List, [], ◌∷◌, length, refl, ap, sym, ◌∙◌, subst, arith, true≢false}
+use Rattle.std.proofs.Common.{◌≡◌, ℕ, suc, ◌-◌, ◌<◌, ◌≤◌, true, List, length, refl, ap, sym, ◌∙◌, subst, arith, true≢false}
 use Rattle.std.specs.Prelude.{slice_get, slice_index, Some}
-use Rattle.std.proofs.lemmas.Nat.{mod_below}
 use Rattle.memory_banks.specs.declared.entry.BusEntry.{BusEntry}
-use Rattle.memory_banks.specs.Entries.{entries_of, replay}
+use Rattle.memory_banks.specs.Entries.{entries_of}
 use Rattle.l1_cache.specs.Lines.{Change, no_lines}
 use Rattle.core_bytes.specs.BusRuns.{BusRun, CoreDid}
 use Rattle.core_bytes.specs.Deeds.{Deed, entries_in}
-use Rattle.core_bytes.specs.OwnBytes.{EndsOwn, IsUnshared, byte_in, own_byte, writes}
+use Rattle.core_bytes.specs.OwnBytes.{EndsOwn, byte_in, own_byte, writes}
 use Rattle.core_bytes.proofs.CarriedBytes.{changes_byte}
 use Rattle.core_bytes.proofs.OtherCores.{deeds_quiet, marks_from}
 use Rattle.core_bytes.proofs.OwnDeeds.{deeds_waiting}

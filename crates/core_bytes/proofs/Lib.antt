@@ -1,3 +1,4 @@
+pub mod AnswerBytes
 pub mod ByteChanges
 pub mod CarriedBytes
 pub mod Covariant
@@ -5,6 +6,7 @@ pub mod EndBytes
 pub mod Entries
 pub mod GroupDeeds
 pub mod OtherCores
+pub mod OwnAnswers
 pub mod OwnDeeds
 pub mod PortLists
 pub mod QuietEntries

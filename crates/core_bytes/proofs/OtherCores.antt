@@ -1,20 +1,19 @@
 -- What a core's entries leave of a byte that it does not write: all of it. Each entry before its first write of the byte is quiet.
-use Rattle.std.proofs.Common.{◌≡◌, inl, inr, ℕ, zero, suc, ◌+◌, ◌-◌, ◌*◌, ◌/◌, ◌%◌, ◌<◌, ◌≤◌, Bool, true, false, nat_eq, if◌then◌else◌, List, [], ◌∷◌, ◌++◌, length, take, drop, refl, ap, sym, ◌∙◌, subst, arith, true≢false}
+use Rattle.std.proofs.Common.{◌≡◌, inl, inr, ℕ, zero, suc, ◌+◌, ◌-◌, ◌*◌, ◌/◌, ◌%◌, ◌≤◌, Bool, true, false, nat_eq, if◌then◌else◌, List, [], ◌∷◌, ◌++◌, length, take, drop, refl, ap, sym, ◌∙◌, subst, arith, true≢false}
 use Rattle.std.specs.Prelude.{bit_and, bit_or, slice_get, slice_index, is_some, Option, Some, None}
 use Rattle.std.specs.List.{AllByRecursion}
-use Rattle.std.proofs.lemmas.Bool.{cases_Bool, cond_both, eqb-false, eqb-true}
-use Rattle.vx_base.specs.Bytes.{byte_of, bytes_of}
+use Rattle.std.proofs.lemmas.Bool.{cases_Bool, cond_both, eqb-true}
+use Rattle.vx_base.specs.Bytes.{byte_of}
 use Rattle.vx_base.specs.declared.types.Size.{Size}
-use Rattle.memory_banks.specs.declared.entry.BusKind.TheVariants.{Load, Store, FetchAnd, FetchOr}
 use Rattle.memory_banks.specs.declared.entry.BusEntry.{BusEntry}
 use Rattle.memory_banks.specs.Entries.{and_entry, load_entry, or_entry, store_entry}
-use Rattle.l1_cache.specs.Accesses.{CarriesOut, Drains, ReadsBy, Writes, carried, loads_from}
-use Rattle.l1_cache.specs.Lines.{Change, Line, Lines, change_of, leaving, line_in, staying}
-use Rattle.core_bytes.specs.BusRuns.{loads, place_after, place_of, places_from}
+use Rattle.l1_cache.specs.Accesses.{CarriesOut, ReadsBy, carried, loads_from}
+use Rattle.l1_cache.specs.Lines.{Change, Line, Lines, change_of, leaving, line_in}
+use Rattle.core_bytes.specs.BusRuns.{loads, place_after, places_from}
 use Rattle.core_bytes.specs.Deeds.{Act, ActsSo, Deed, DoesAll, Draining, Kept, Reading, Writing, entries_in}
 use Rattle.core_bytes.specs.OwnBytes.{writes}
 use Rattle.core_bytes.proofs.CarriedBytes.{IsQuietChange, no_byte, or_none, write_quiet}
-use Rattle.core_bytes.proofs.ByteChanges.{and_all, and_none}
+use Rattle.core_bytes.proofs.ByteChanges.{and_all}
 use Rattle.core_bytes.proofs.QuietEntries.{IsQuiet, QuietTo, entry_byte}
 
 -- ---- marks: places by the core's own counts

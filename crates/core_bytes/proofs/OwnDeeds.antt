@@ -21,7 +21,7 @@ use Rattle.core_bytes.proofs.RightLines.{AreRight, IsRight, all_changed_at, all_
 -- ---- what waits
 
 -- what waits, applied to what was carried out, is what the writes left
-act_waiting : {E : Type 0} (evicts : E → ℕ → ℕ → ℕ → ℕ → E → Type 0) (b port : ℕ) (act : Act) (entries : List BusEntry) (lines : Lines) (policy : E) (lines' : Lines) (policy' : E) (x y : ℕ)
+pub act_waiting : {E : Type 0} (evicts : E → ℕ → ℕ → ℕ → ℕ → E → Type 0) (b port : ℕ) (act : Act) (entries : List BusEntry) (lines : Lines) (policy : E) (lines' : Lines) (policy' : E) (x y : ℕ)
     → ActsSo evicts port act entries lines policy lines' policy' → x < 256 → x ≡ changes_byte b lines.waiting y → written act b x ≡ changes_byte b lines'.waiting (run_byte b entries y)
 act_waiting evicts b port (Reading address size answer) entries lines policy lines' policy' x y h small is =
     by_ways lines.way_count (line_in lines (address / 64)) h.1
@@ -50,7 +50,7 @@ act_waiting evicts b port (Writing address size value) entries lines policy line
 act_waiting evicts b port Draining entries lines policy lines' policy' x y h small is =
     is ∙ (sym (carries_run port b lines.waiting entries y h.0.carries) ∙ ap (λ (l : Lines). changes_byte b l.waiting (run_byte b entries y)) (sym h.0.lines_are))
 
-written_small : (act : Act) (b x : ℕ) → x < 256 → written act b x < 256
+pub written_small : (act : Act) (b x : ℕ) → x < 256 → written act b x < 256
 written_small (Reading address size answer) b x small = small
 written_small (Writing address size value) b x small =
     cond_both (writes (Writing address size value) b) (byte_of value (b - address)) x (λ y. y < 256) (λ is. omega arith) (λ is. small)

@@ -46,7 +46,7 @@ front_right b x number line keeps lines one all =
     (λ same. (one, all_filter (IsRight b x) keeps (set_of lines number) (subst (λ (i : ℕ). AreRight b x (get_or lines.sets i [])) (sym same) all)))
 
 -- the line that is found is of the set and has the number
-found_right : (P : Line → Type 0) (number : ℕ) (lines : List Line) (line : Line) → find (λ l. nat_eq l.number number) lines ≡ Some line → AllByRecursion P lines → P line × (line.number ≡ number)
+pub found_right : (P : Line → Type 0) (number : ℕ) (lines : List Line) (line : Line) → find (λ l. nat_eq l.number number) lines ≡ Some line → AllByRecursion P lines → P line × (line.number ≡ number)
 found_right P number [] line is all = absurd (true≢false (sym (ap is_some is)))
 found_right P number (l ∷ lines) line is all = by_number (nat_eq l.number number) (λ other. found_right P number lines line other all.1) refl is
   where
