@@ -1,18 +1,18 @@
 -- A read's byte that no other core wrote at a lesser place is what the core's own deeds left.
-use Rattle.std.proofs.Common.{◌≡◌, ◌≢◌, ℕ, zero, suc, ◌+◌, ◌-◌, ◌*◌, ◌/◌, ◌%◌, ◌<◌, ◌≤◌, true, false, List, [], ◌∷◌, ◌++◌, length, take, replicate, get_or, refl, ap, sym, ◌∙◌, subst, arith, true≢false, length-append}
-use Rattle.std.specs.Prelude.{slice_get, slice_index, is_some, unwrap_or, Option, Some, None}
+use Rattle.std.proofs.Common.{◌≡◌, ℕ, zero, suc, ◌+◌, ◌-◌, ◌/◌, ◌%◌, ◌<◌, ◌≤◌, List, [], ◌∷◌, ◌++◌, length, take, replicate, get_or, refl, ap, sym, subst, arith, true≢false, length-append}
+use Rattle.std.specs.Prelude.{slice_get, slice_index, is_some, unwrap_or, Option, Some}
 use Rattle.vx_base.specs.Bytes.{byte_of, bytes_of}
 use Rattle.vx_base.specs.declared.types.Size.{Size}
 use Rattle.memory_banks.specs.declared.entry.BusEntry.{BusEntry}
 use Rattle.memory_banks.specs.Entries.{entries_of}
-use Rattle.l1_cache.specs.Lines.{Change, Line, Lines, change_of, line_in, no_lines, set_of, with_change}
+use Rattle.l1_cache.specs.Lines.{Lines, change_of, line_in, no_lines, set_of, with_change}
 use Rattle.core_bytes.specs.BusRuns.{BusRun, CoreDid, place_after, places}
 use Rattle.core_bytes.specs.Deeds.{Act, ActsSo, Deed, Does, DoesAll, Draining, Kept, Reading, Writing, entries_in}
-use Rattle.core_bytes.specs.OwnBytes.{AnswersOwn, IsClear, byte_in, own_byte, written}
-use Rattle.core_bytes.proofs.CarriedBytes.{change_byte, changes_byte, write_byte}
+use Rattle.core_bytes.specs.OwnBytes.{AnswersOwn, byte_in, own_byte, written}
+use Rattle.core_bytes.proofs.CarriedBytes.{changes_byte, write_byte}
 use Rattle.core_bytes.proofs.EndBytes.{other_quiet}
 use Rattle.core_bytes.proofs.OtherCores.{mark_after, mark_within, marks_from, place_mark}
-use Rattle.core_bytes.proofs.OwnAnswers.{ReadsRight, read_right}
+use Rattle.core_bytes.proofs.OwnAnswers.{read_right}
 use Rattle.core_bytes.proofs.OwnDeeds.{act_waiting, written_small}
 use Rattle.core_bytes.proofs.QuietEntries.{AnsweredTo, OthersQuiet, answered, byte_below, count, enough, entry_byte, few, others_quiet, run_byte}
 use Rattle.core_bytes.proofs.RightLines.{AreRight, change_right}

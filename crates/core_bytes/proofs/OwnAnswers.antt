@@ -1,21 +1,19 @@
 -- A core's reads answer what its own writes left, where its loads are answered by its own entries.
-use Rattle.std.proofs.Common.{◌≡◌, inl, inr, ℕ, zero, suc, ◌+◌, ◌-◌, ◌*◌, ◌/◌, ◌%◌, ◌<◌, ◌≤◌, Bool, true, false, nat_eq, if◌then◌else◌, List, [], ◌∷◌, ◌++◌, length, take, refl, ap, sym, ◌∙◌, subst, arith, true≢false}
-use Rattle.std.specs.Prelude.{nat_lt, not, slice_get, slice_index, is_some, unwrap_or, Option, Some, None}
+use Rattle.std.proofs.Common.{◌≡◌, ℕ, zero, suc, ◌+◌, ◌-◌, ◌*◌, ◌/◌, ◌%◌, ◌<◌, ◌≤◌, Bool, nat_eq, if◌then◌else◌, List, [], ◌∷◌, ◌++◌, length, refl, ap, sym, ◌∙◌, subst, arith}
+use Rattle.std.specs.Prelude.{nat_lt, not, slice_index, Option, Some, None}
 use Rattle.std.specs.List.{AllByRecursion}
-use Rattle.std.proofs.lemmas.Bool.{cond_both, lt-ltb}
+use Rattle.std.proofs.lemmas.Bool.{lt-ltb}
 use Rattle.vx_base.specs.Bytes.{byte_of, bytes_of}
 use Rattle.vx_base.specs.declared.types.Size.{Size}
 use Rattle.vx_base.specs.declared.types.Size.TheVariants.{One, Two, Four}
 use Rattle.memory_banks.specs.declared.entry.BusEntry.{BusEntry}
 use Rattle.memory_banks.specs.Entries.{load_entry}
 use Rattle.l1_cache.specs.Accesses.{ReadsBy, loads_from}
-use Rattle.l1_cache.specs.Lines.{Change, Line, Lines, all_changed, change_of, line_in, part_of, set_of, with_changes}
+use Rattle.l1_cache.specs.Lines.{Change, Line, Lines, all_changed, line_in, part_of, set_of, with_changes}
 use Rattle.core_bytes.specs.BusRuns.{loads}
-use Rattle.core_bytes.specs.Deeds.{Act, ActsSo, Deed, DoesAll, Draining, Kept, Reading, Writing, entries_in}
-use Rattle.core_bytes.specs.OwnBytes.{own_byte, written}
-use Rattle.core_bytes.proofs.CarriedBytes.{change_byte, changes_byte, part_byte, write_byte}
-use Rattle.core_bytes.proofs.QuietEntries.{AnsweredTo, entry_byte, run_byte}
-use Rattle.core_bytes.proofs.RightLines.{AreRight, IsRight, all_changed_at, all_changed_length, change_right, finds_right, found_right, front_right, load_at, loads_length, with_byte}
+use Rattle.core_bytes.proofs.CarriedBytes.{changes_byte, part_byte}
+use Rattle.core_bytes.proofs.QuietEntries.{AnsweredTo}
+use Rattle.core_bytes.proofs.RightLines.{AreRight, IsRight, all_changed_at, all_changed_length, finds_right, found_right, front_right, load_at, loads_length, with_byte}
 
 -- a byte of a field lies in the field's word
 pub field_within : (a : ℕ) (size : Size) (i b : ℕ) → a % bytes_of size ≡ 0 → i < bytes_of size → a + i ≡ b → (a / 4 ≡ b / 4) × (a % 4 + i ≡ b % 4)

@@ -1,22 +1,19 @@
 -- A core's own deeds, at one byte: what waits, applied to what was carried out, is what its writes leave; and where the loads are
 -- answered by its own entries its lines are right, and so are its answers.
-use Rattle.std.proofs.Common.{◌≡◌, inl, inr, ℕ, zero, suc, ◌+◌, ◌-◌, ◌*◌, ◌/◌, ◌%◌, ◌<◌, ◌≤◌, Bool, true, false, nat_eq, if◌then◌else◌, List, [], ◌∷◌, ◌++◌, length, take, drop, replicate, get_or, refl, ap, sym, ◌∙◌, subst, arith, true≢false}
-use Rattle.std.specs.Prelude.{nat_lt, not, filter, find, slice_get, slice_index, is_some, unwrap_or, Option, Some, None}
-use Rattle.std.proofs.lemmas.Bool.{cond_both, lt-ltb}
+use Rattle.std.proofs.Common.{◌≡◌, ℕ, zero, suc, ◌-◌, ◌*◌, ◌/◌, ◌<◌, List, [], ◌∷◌, ◌++◌, length, take, drop, ap, sym, ◌∙◌, arith}
+use Rattle.std.specs.Prelude.{Option, Some, None}
+use Rattle.std.proofs.lemmas.Bool.{cond_both}
 use Rattle.std.proofs.lemmas.List.{take-append-drop}
-use Rattle.vx_base.specs.Bytes.{byte_of, bytes_of}
-use Rattle.vx_base.specs.declared.types.Size.{Size}
-use Rattle.vx_base.specs.declared.types.Size.TheVariants.{One, Two, Four}
+use Rattle.vx_base.specs.Bytes.{byte_of}
 use Rattle.memory_banks.specs.declared.entry.BusEntry.{BusEntry}
-use Rattle.memory_banks.specs.Entries.{load_entry}
-use Rattle.l1_cache.specs.Accesses.{CarriesOut, Reads, ReadsBy, loads_from}
-use Rattle.l1_cache.specs.Lines.{Change, Line, Lines, change_of, leaving, line_in, part_of, set_of, staying, with_change, with_changes}
+use Rattle.l1_cache.specs.Accesses.{ReadsBy}
+use Rattle.l1_cache.specs.Lines.{Change, Line, Lines, change_of, leaving, line_in}
 use Rattle.core_bytes.specs.Deeds.{Act, ActsSo, Deed, DoesAll, Draining, Kept, Reading, Writing, entries_in}
 use Rattle.core_bytes.specs.OwnBytes.{own_byte, writes, written}
-use Rattle.core_bytes.proofs.CarriedBytes.{carries_run, change_byte, changes_append, changes_byte, part_byte, run_append, write_byte}
-use Rattle.core_bytes.proofs.OtherCores.{load_same, mark_after, mark_within, marks_from}
-use Rattle.core_bytes.proofs.QuietEntries.{AnsweredTo, entry_byte, run_byte}
-use Rattle.core_bytes.proofs.RightLines.{AreRight, IsRight, all_changed_at, all_changed_length, change_right, finds_right, front_right, load_at, loads_length, loads_run, with_byte}
+use Rattle.core_bytes.proofs.CarriedBytes.{carries_run, change_byte, changes_append, changes_byte, run_append, write_byte}
+use Rattle.core_bytes.proofs.OtherCores.{load_same}
+use Rattle.core_bytes.proofs.QuietEntries.{run_byte}
+use Rattle.core_bytes.proofs.RightLines.{loads_run}
 
 -- ---- what waits
 

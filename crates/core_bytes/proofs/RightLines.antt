@@ -1,22 +1,18 @@
 -- Which lines of a cache are right at one byte, and how reads, writes and fills keep them so.
-use Rattle.std.proofs.Common.{◌≡◌, inl, inr, ℕ, zero, suc, ◌+◌, ◌-◌, ◌*◌, ◌/◌, ◌%◌, ◌<◌, ◌≤◌, Bool, true, false, nat_eq, if◌then◌else◌, cond, List, [], ◌∷◌, ◌++◌, length, get_or, set, refl, ap, sym, ◌∙◌, subst, arith, true≢false}
-use Rattle.std.specs.Prelude.{bit_and, bit_or, filter, find, map, slice_index, slice_set, is_some, unwrap_or, Option, Some, None}
+use Rattle.std.proofs.Common.{◌≡◌, inl, inr, ℕ, zero, suc, ◌+◌, ◌/◌, ◌%◌, ◌<◌, Bool, true, false, nat_eq, if◌then◌else◌, cond, List, [], ◌∷◌, ◌++◌, length, get_or, set, refl, ap, sym, ◌∙◌, subst, arith, true≢false}
+use Rattle.std.specs.Prelude.{bit_and, bit_or, filter, find, map, slice_index, slice_set, is_some, unwrap_or, Option, Some}
 use Rattle.std.specs.List.{AllByRecursion}
 use Rattle.std.proofs.Math.ListN.{length-set}
 use Rattle.std.proofs.lemmas.Bool.{cases_eq, cond-false, cond_both, eqb-false, eqb-true, ne_eqb}
 use Rattle.std.proofs.lemmas.List.{get_or-set_same, get_or-set_other}
-use Rattle.vx_base.specs.Bytes.{byte_of, bytes_of}
-use Rattle.vx_base.specs.declared.types.Size.{Size}
-use Rattle.vx_base.specs.declared.types.Size.TheVariants.{One, Two, Four}
-use Rattle.memory_banks.specs.declared.entry.BusKind.TheVariants.{Load}
+use Rattle.vx_base.specs.Bytes.{byte_of}
 use Rattle.memory_banks.specs.declared.entry.BusEntry.{BusEntry}
-use Rattle.memory_banks.specs.Entries.{load_entry}
 use Rattle.l1_cache.specs.Accesses.{loads_from}
-use Rattle.l1_cache.specs.Lines.{Change, Line, Lines, all_changed, changed_line, changed_word, in_front, part_of, put_in, set_of, with_change, with_changes, with_set}
+use Rattle.l1_cache.specs.Lines.{Change, Line, Lines, all_changed, changed_line, changed_word, set_of, with_change, with_changes, with_set}
 use Rattle.core_bytes.proofs.ByteChanges.{byte_and, byte_or}
-use Rattle.core_bytes.proofs.CarriedBytes.{change_byte, changes_byte, part_byte}
+use Rattle.core_bytes.proofs.CarriedBytes.{change_byte, changes_byte}
 use Rattle.core_bytes.proofs.OtherCores.{load_same}
-use Rattle.core_bytes.proofs.QuietEntries.{AnsweredTo, entry_byte, run_byte}
+use Rattle.core_bytes.proofs.QuietEntries.{AnsweredTo, run_byte}
 
 -- a line with the byte's number has sixteen words, and the byte in it is x
 abbrev pub IsRight : ℕ → ℕ → Line → Type 0
