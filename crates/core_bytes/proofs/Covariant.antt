@@ -1,10 +1,10 @@
 -- A map of buses that keeps each entry keeps the runs of groups.
-use Rattle.std.proofs.Common.{◌≡◌, ℕ, zero, suc, List, [], ◌∷◌, ap, refl}
+use Rattle.std.proofs.Common.{ℕ, zero, suc, List, [], ◌∷◌, ap}
 use Rattle.std.specs.Prelude.{Option, Some, None}
 use Rattle.vx_base.specs.declared.types.Size.{Size}
 use Rattle.vx_isa.specs.WarpSteps.{Access, LaneAccess, Makes, Reads, Writes}
 use Rattle.memory_banks.specs.declared.entry.BusEntry.{BusEntry}
-use Rattle.vx_core.specs.CoreSteps.{ClosesGroup, CoreState, Ends, GoesOn, OpensGroup, Runs, RunsGroup, RunsOut, Setting, StepsOnce}
+use Rattle.vx_core.specs.CoreSteps.{CoreState, Ends, GoesOn, Runs, RunsGroup, RunsOut, Setting, StepsOnce}
 use Rattle.vx_core.specs.Places.{DrainsWords, Reach, Reaches, ReadsAt, WritesAt, place_at}
 use Rattle.vx_core.specs.declared.end.GroupEnd.{GroupEnd}
 use Rattle.vx_core.specs.declared.place.Place.{Place}

@@ -2,7 +2,7 @@
 use Rattle.std.proofs.Common.{◌≡◌, ℕ, List, [], ◌∷◌, ◌++◌, ap, ◌∙◌, sym, subst, refl, append_assoc}
 use Rattle.memory_banks.specs.declared.entry.BusEntry.{BusEntry}
 use Rattle.memory_banks.specs.Buses.{MakesAll}
-use Rattle.core_bytes.specs.Deeds.{Deed, Does, DoesAll, Kept, entries_in}
+use Rattle.core_bytes.specs.Deeds.{Deed, DoesAll, Kept, entries_in}
 
 pub MakesAll-append : {B : Type 0} (acts : B → BusEntry → B → Type 0) (b : B) (es : List BusEntry) (m : B) (fs : List BusEntry) (c : B) → MakesAll acts b es m → MakesAll acts m fs c → MakesAll acts b (es ++ fs) c
 MakesAll-append acts b [] m fs c same more = subst (λ x. MakesAll acts x fs c) same more

@@ -6,13 +6,13 @@ use Rattle.vx_base.specs.declared.types.Size.{Size}
 use Rattle.vx_isa.specs.WarpSteps.{Access, LaneAccess, Makes, Reads, Writes}
 use Rattle.memory_banks.specs.declared.entry.BusEntry.{BusEntry}
 use Rattle.memory_banks.specs.Buses.{MakesAll}
-use Rattle.vx_core.specs.CoreSteps.{ClosesGroup, CoreState, Ends, GoesOn, OpensGroup, Runs, RunsGroup, RunsOut, Setting, StepsOnce}
+use Rattle.vx_core.specs.CoreSteps.{CoreState, Ends, GoesOn, Runs, RunsGroup, RunsOut, Setting, StepsOnce}
 use Rattle.vx_core.specs.Places.{DrainsWords, Reach, Reaches, ReadsAt, WritesAt, place_at, with_entries}
 use Rattle.vx_core.specs.declared.end.GroupEnd.{GroupEnd}
 use Rattle.vx_core.specs.declared.place.Place.{Place}
 use Rattle.vx_core.specs.declared.place.Place.TheVariants as place
-use Rattle.core_bytes.specs.Deeds.{Deed, DoesAll, Draining, Kept, Reading, Writing, entries_in}
-use Rattle.core_bytes.specs.GroupDeeds.{IsLed, Leads, kept_in}
+use Rattle.core_bytes.specs.Deeds.{Deed, DoesAll, Draining, Reading, Writing, entries_in}
+use Rattle.core_bytes.specs.GroupDeeds.{IsLed, kept_in}
 use Rattle.core_bytes.proofs.Entries.{DoesAll-append, MakesAll-append, entries_in-append}
 
 with_entries-append : (banks : ℕ) (es fs : List BusEntry) (steps : List ℕ) → with_entries banks (es ++ fs) steps ≡ with_entries banks fs (with_entries banks es steps)

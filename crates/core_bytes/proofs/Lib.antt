@@ -1,6 +1,15 @@
+pub mod AnswerBytes
+pub mod ByteChanges
+pub mod CarriedBytes
 pub mod Covariant
+pub mod EndBytes
 pub mod Entries
 pub mod GroupDeeds
+pub mod OtherCores
+pub mod OwnAnswers
+pub mod OwnDeeds
 pub mod PortLists
+pub mod QuietEntries
+pub mod RightLines
 pub mod Rising
 pub mod Worked

@@ -1,9 +1,7 @@
 -- Entries that are made through a port stand in the port's list, in their order.
-use Rattle.std.proofs.Common.{◌≡◌, ℕ, List, [], ◌∷◌, ◌++◌, ap, ◌∙◌, sym, append_assoc}
+use Rattle.std.proofs.Common.{◌≡◌, List, [], ◌∷◌, ◌++◌, ap, ◌∙◌, sym, append_assoc}
 use Rattle.std.proofs.lemmas.List.{append-nil}
-use Rattle.memory_banks.specs.declared.banks.Banks.{Banks}
 use Rattle.memory_banks.specs.declared.entry.BusEntry.{BusEntry}
-use Rattle.memory_banks.specs.declared.port.Port.{Port}
 use Rattle.memory_banks.specs.declared.port_bus.PortBus.{PortBus}
 use Rattle.memory_banks.specs.Buses.{AddsEntry, MakesAll}
 use Rattle.memory_banks.specs.Ports.{list_of, number, numbers}

@@ -1,7 +1,7 @@
 -- The places of a core's deeds never fall.
-use Rattle.std.proofs.Common.{◌≡◌, ℕ, zero, suc, ◌+◌, ◌≤◌, Bool, true, false, nat_eq, if◌then◌else◌, List, [], ◌∷◌, length, refl, sym, subst, arith}
+use Rattle.std.proofs.Common.{ℕ, zero, suc, ◌+◌, ◌≤◌, Bool, true, false, nat_eq, if◌then◌else◌, List, [], ◌∷◌, length, arith}
 use Rattle.memory_banks.specs.declared.entry.BusEntry.{BusEntry}
-use Rattle.core_bytes.specs.BusRuns.{RisesFrom, loads, place_after, place_of, places, places_from}
+use Rattle.core_bytes.specs.BusRuns.{RisesFrom, loads, place_after, places, places_from}
 use Rattle.core_bytes.specs.Deeds.{Deed}
 
 -- more entries of a port end no earlier

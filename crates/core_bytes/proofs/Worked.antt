@@ -1,5 +1,5 @@
 -- Worked runs of one core, computed from the definitions.
-use Rattle.std.proofs.Common.{◌≡◌, ℕ, zero, suc, ◌<◌, List, [], ◌∷◌, ◌++◌, length, get_or, replicate, refl, arith, All}
+use Rattle.std.proofs.Common.{◌≡◌, ℕ, zero, suc, ◌<◌, List, [], ◌∷◌, ◌++◌, replicate, refl, arith, All}
 use Rattle.std.specs.List.{AllByRecursion}
 use Rattle.vx_base.specs.declared.types.Size.TheVariants.{One, Four}
 use Rattle.memory_banks.specs.declared.entry.BusEntry.{BusEntry}

@@ -1,4 +1,5 @@
 pub mod BusRuns
+pub mod ByteLaws
 pub mod Deeds
 pub mod GroupDeeds
 pub mod Mapped

@@ -1,6 +1,6 @@
 -- The law of bytes of one core: what a read answers, and how the words end, where no other core came between. A core knows no
 -- more of the others' writes.
-use Rattle.std.specs.Prelude.{◌≡◌, ◌≢◌, ℕ, suc, ◌+◌, ◌-◌, ◌*◌, ◌/◌, ◌%◌, ◌<◌, ◌≤◌, Bool, true, false, ◌&&◌, nat_le, nat_lt, if◌then◌else◌, List, [], ◌∷◌, length, take, slice_get, slice_index, Option, Some, None}
+use Rattle.std.specs.Prelude.{◌≡◌, ◌≢◌, ℕ, suc, ◌+◌, ◌-◌, ◌*◌, ◌/◌, ◌%◌, ◌<◌, ◌≤◌, Bool, true, false, ◌&&◌, nat_le, nat_lt, if◌then◌else◌, List, [], ◌∷◌, length, take, slice_get, slice_index, Some}
 use Rattle.vx_base.specs.Bytes.{byte_of, bytes_of}
 use Rattle.vx_base.specs.declared.types.Size.{Size}
 use Rattle.memory_banks.specs.declared.entry.BusEntry.{BusEntry}
@@ -36,11 +36,12 @@ IsClear cores deeds history core place b = (other : ℕ) → other < cores → o
 abbrev pub IsUnshared : ℕ → (ℕ → List Deed) → ℕ → ℕ → Type 0
 IsUnshared cores deeds core b = (other : ℕ) → other < cores → other ≢ core → (k : ℕ) (d : Deed) → slice_get (deeds other) k ≡ Some d → writes d.act b ≡ false
 
--- Deed k of a core is a read, and no other core wrote byte i of its field at a lesser place: the answer has there what the
+-- Deed k of a core is a read, byte i of its field is one of the words, and no other core wrote it at a lesser place: the answer has there what the
 -- core's own deeds before it left, or the opening byte.
 abbrev pub AnswersOwn : List ℕ → ℕ → (ℕ → List Deed) → List BusEntry → Type 0
 AnswersOwn opening cores deeds history = (core k address : ℕ) (size : Size) (answer i : ℕ) (entries : List BusEntry)
     → core < cores → slice_get (deeds core) k ≡ Some (record { act = Reading address size answer; entries = entries }) → i < bytes_of size
+    → address + i < 4 * length opening
     → IsClear cores deeds history core (slice_index (places (suc core) history (deeds core)) k) (address + i)
     → byte_of answer i ≡ own_byte (take k (deeds core)) (address + i) (byte_in opening (address + i))
 

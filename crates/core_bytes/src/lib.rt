@@ -5,3 +5,5 @@
 //! Read first `specs/Deeds.antt` for what a core does, then `specs/BusRuns.antt` for how the deeds of cores and the history fit
 //! together, and `specs/OwnBytes.antt` for the law of bytes of one core.
 #![tactic(auto)]
+
+pub mod laws;
