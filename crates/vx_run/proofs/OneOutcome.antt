@@ -19,6 +19,7 @@ use Rattle.vx_cc.proofs.OneFront.{one_front}
 use Rattle.vx_words.specs.declared.command.Command.{Command}
 use Rattle.vx_words.specs.declared.command.Command.TheVariants.{Run, Asm, Dis}
 use Rattle.vx_run.specs.Answers.{Chosen, Outcome, Refuses, Prints, Brings, counted_bytes, FromArguments, WrongArguments, Runs, FromBuffers, NoBuffers, NoBufferFile, WrongLength, NextBuffer, IsKernelOf, FromKernel, NotBuilt, HasForm, FromProgram, NoEntry, HasEntry, FromSource, LongSource, BadSource, HasProgram, FromFile, NoFile, HasFile, FromBytes, TooLong, BadText, GoodText, FromText, NoText, HasText, FromCommand, most_assembly, most_word_text, FromWords, WrongWords, RightWords}
+use Rattle.vx_words.specs.Commands.{IsUsage}
 use Rattle.vx_words.proofs.OneReading.{command_same, command_usage, usage_same}
 use Rattle.vx_run.proofs.Answerable.{of_text}
 
