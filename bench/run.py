@@ -3,9 +3,10 @@
 
   bench/run.py        after ./vx has built the program once
   bench/run.py front  texts of 1,048,576 bytes from bytes to tokens: names, punctuators, uses of macros, macros that stand in one another,
-                      a program, from bytes to its trees, and a thousand functions, from bytes to their program; then kernels of
-                      which structured code without jumps is made a hundred times: one of 16,374 nodes in calls and one of a quarter
-                      of them, one of 16,362 nodes in loops and one of a quarter of them; after rt ci or, in crates/front_speed,
+                      a program, from bytes to its trees, and a thousand functions, a chain of helpers each of which calls the
+                      next, and helpers that all call the first, from bytes to their program; then
+                      kernels of which structured code without jumps is made a hundred times: one of 16,374 nodes in calls and one
+                      of a quarter of them, one of 16,362 nodes in loops and one of a quarter of them; after rt ci or, in crates/front_speed,
                       rt run has built that program
   bench/run.py ports  millions of stores a second to shared words, by one to four threads; after rt ci or, in crates/port_steps,
                       rt run has built that program
@@ -167,7 +168,7 @@ def front():
     if not os.access(FRONT_SPEED, os.X_OK):
         sys.exit("bench: front_speed is not built: run rt run -- names 1000 in crates/front_speed once")
     print("%-9s %8s %10s %10s %10s %12s" % ("text", "status", "bytes", "tokens", "seconds", "peak MiB"))
-    texts = [(kind, LIMIT) for kind in ("names", "marks", "uses", "nested", "undefs", "program", "functions")]
+    texts = [(kind, LIMIT) for kind in ("names", "marks", "uses", "nested", "undefs", "program", "functions", "chain", "wide")]
     wrong = 0
     for kind, most in (*texts, ("calls", 821), ("calls", 2681), ("loops", 15_400), ("loops", 61_400)):
         with tempfile.TemporaryFile() as output:

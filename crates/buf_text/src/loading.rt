@@ -4,10 +4,12 @@ ghost use Rattle.vx_base.specs.Values.{elem_bytes};
 ghost use Rattle.buf_text.specs.Elements.{HasBytes};
 
 use crate::word_bytes::word_byte;
+use thiserror::Error;
 use vx_base::{Elem, Size, WordList, get_le};
 
 /// Why bytes are no elements: their number is no multiple of the size of an element.
-#[derive(Clone, Copy, Debug, PartialEq, Eq)]
+#[derive(Clone, Copy, Debug, PartialEq, Eq, Error)]
+#[error("{bytes} bytes are no whole number of elements of {size} bytes")]
 pub struct LengthFault {
     /// How many bytes there are.
     pub bytes: u32,

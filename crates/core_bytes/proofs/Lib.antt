@@ -4,7 +4,9 @@ pub mod CarriedBytes
 pub mod Covariant
 pub mod EndBytes
 pub mod Entries
+pub mod FittingWords
 pub mod GroupDeeds
+pub mod GroupWords
 pub mod OtherCores
 pub mod OwnAnswers
 pub mod OwnDeeds
@@ -12,4 +14,5 @@ pub mod PortLists
 pub mod QuietEntries
 pub mod RightLines
 pub mod Rising
+pub mod WordSteps
 pub mod Worked

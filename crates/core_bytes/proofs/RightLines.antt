@@ -29,7 +29,7 @@ at_set P (x ∷ xs) zero (suc j) v d old new = old
 at_set P (x ∷ xs) (suc i) zero v d old new = old
 at_set P (x ∷ xs) (suc i) (suc j) v d old new = at_set P xs i j v d old (λ same. new (ap suc same))
 
-all_filter : {A : Type 0} (P : A → Type 0) (test : A → Bool) (xs : List A) → AllByRecursion P xs → AllByRecursion P (filter test xs)
+pub all_filter : {A : Type 0} (P : A → Type 0) (test : A → Bool) (xs : List A) → AllByRecursion P xs → AllByRecursion P (filter test xs)
 all_filter P test [] all = tt
 all_filter P test (x ∷ xs) all =
     cond_both (test x) (x ∷ filter test xs) (filter test xs) (AllByRecursion P) (λ is. (all.0, all_filter P test xs all.1)) (λ is. all_filter P test xs all.1)

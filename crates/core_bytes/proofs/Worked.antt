@@ -7,12 +7,9 @@ use Rattle.memory_banks.specs.Entries.{and_entry, entries_of, load_entry, or_ent
 use Rattle.l1_cache.specs.Accesses.{loads_from}
 use Rattle.l1_cache.specs.Lines.{Line, Lines, change_of, no_lines}
 use Rattle.core_bytes.specs.BusRuns.{BusRun, CoreDid, IsOfCore, places}
+use Rattle.core_bytes.specs.ByteLaws.{gives_oldest}
 use Rattle.core_bytes.specs.Deeds.{Deed, Draining, Kept, Reading, Writing, entries_in}
 use Rattle.core_bytes.specs.OwnBytes.{byte_in, own_byte}
-
--- the policy that gives up the oldest line
-abbrev pub gives_oldest : Unit {0} → ℕ → ℕ → ℕ → ℕ → Unit {0} → Type 0
-gives_oldest before number oldest ways way behind = way ≡ oldest
 
 -- one line of zeros
 abbrev pub line_of_zeros : List ℕ

@@ -1,8 +1,9 @@
--- The law of bytes for cores that give up their oldest lines.
+-- The laws of bytes and of words, for cores that give up their oldest lines.
 use Rattle.std.specs.Prelude.{◌≡◌, ℕ, List}
 use Rattle.memory_banks.specs.declared.entry.BusEntry.{BusEntry}
 use Rattle.core_bytes.specs.BusRuns.{BusRun}
 use Rattle.core_bytes.specs.Deeds.{Deed}
+use Rattle.core_bytes.specs.FittingWords.{AnswersFit, StayWords, WordsGoIn}
 use Rattle.core_bytes.specs.OwnBytes.{AnswersOwn, EndsOwn}
 
 -- the policy that gives up the oldest line
@@ -18,3 +19,13 @@ EveryByteEnds = (sets ways room : ℕ) (opening : List ℕ) (cores : ℕ) (deeds
 abbrev pub EveryByteAnswers : Type 0
 EveryByteAnswers = (sets ways room : ℕ) (opening : List ℕ) (cores : ℕ) (deeds : ℕ → List Deed) (history : List BusEntry)
     → BusRun gives_oldest sets ways room (λ core. tt) opening cores deeds history → AnswersOwn opening cores deeds history
+
+-- in every run that begins with words and writes words, there are words at each moment
+abbrev pub EveryWordStays : Type 0
+EveryWordStays = (sets ways room : ℕ) (opening : List ℕ) (cores : ℕ) (deeds : ℕ → List Deed) (history : List BusEntry)
+    → BusRun gives_oldest sets ways room (λ core. tt) opening cores deeds history → WordsGoIn opening cores deeds → StayWords opening history
+
+-- and what reads answer fits their fields
+abbrev pub EveryAnswerFits : Type 0
+EveryAnswerFits = (sets ways room : ℕ) (opening : List ℕ) (cores : ℕ) (deeds : ℕ → List Deed) (history : List BusEntry)
+    → BusRun gives_oldest sets ways room (λ core. tt) opening cores deeds history → WordsGoIn opening cores deeds → AnswersFit cores deeds

@@ -1,6 +1,6 @@
 -- The launch of a kernel of assignments, by the work-item semantics, leaves what that of its form leaves.
 use Rattle.std.proofs.Common.{◌≡◌, ℕ, zero, suc, ◌+◌, ◌*◌, ◌/◌, ◌%◌, ◌^◌, ◌<◌, ◌≤◌, true, false, cond, leb, ltb, List, [], ◌∷◌, length, Some, None, refl, sym, ap, subst, ◌∙◌, arith}
-use Rattle.std.specs.Prelude.{slice_get, slice_index}
+use Rattle.std.specs.Prelude.{replicate, slice_get, slice_index}
 use Rattle.std.specs.List.{AllByRecursion, list_all}
 use Rattle.std.proofs.Math.Nat.{div-eq_of_lt, mod-eq_of_lt, zero-mod}
 use Rattle.std.proofs.lemmas.Bool.{leb-true}
@@ -145,7 +145,10 @@ source_leaves program f k arguments items buffers given left formed launchable l
     body_alike program (kernel_scope f) refl (setting_of f (one_group items) (int_bounds items arguments) item) (buffer_of arguments) item items (length f.params)
     (omega (arith, below, few)) below (own_number items item below (omega (arith, below, few))) (λ p inside. array_is f k arguments items p h enough inside) f.body k.assignments h.assignments
     (slice_index (bound_values f.params (int_bounds items arguments))) in
-    leaves_there (kernel_asks program f (one_group items) (int_bounds items arguments)) (launch_of k arguments items buffers)
-    (λ item below answers a asks. let x = (alike item below).there answers a (asks.steps, asks.asked) in record { steps = x.0; asked = x.1 })
-    (λ item below answers a asks. let x = (alike item below).back answers a (asks.steps, asks.asked) in record { steps = x.0; asked = x.1 })
-    given left leaves
+    let size : items * 1 * 1 ≡ items = omega arith in
+    let asks = kernel_asks program f (one_group items) (int_bounds items arguments) in
+    let of_size = λ (n : ℕ). LaunchLeaves (record { items = n; local = n; asks = asks; buffers = replicate buffers (4 * items); locals = [] }) given left in
+    subst of_size (sym size) (leaves_there asks (launch_of k arguments items buffers)
+    (λ item below answers a asked. let x = (alike item below).there answers a (asked.steps, asked.asked) in record { steps = x.0; asked = x.1 })
+    (λ item below answers a asked. let x = (alike item below).back answers a (asked.steps, asked.asked) in record { steps = x.0; asked = x.1 })
+    given left leaves)

@@ -6,7 +6,7 @@ use Rattle.item_acts.specs.declared.acts.Bound.TheVariants.{Array}
 use Rattle.item_acts.specs.declared.acts.Range.{Range}
 use Rattle.item_acts.specs.Launches.{Launch}
 use Rattle.ocl_program.specs.Nodes.{FunctionNode}
-use Rattle.ocl_sem.specs.Items.{kernel_asks}
+use Rattle.ocl_launch.specs.Launches.{kernel_launch}
 
 -- so many items in one group
 abbrev pub one_group : ℕ → Range
@@ -18,10 +18,5 @@ int_bounds items arguments = map (λ b. Array b items) arguments
 
 -- the launch
 abbrev pub source_launch : List FunctionNode → FunctionNode → List ℕ → ℕ → ℕ → Launch
-source_launch program kernel arguments items buffers = record {
-  items = items;
-  local = items;
-  asks = kernel_asks program kernel (one_group items) (int_bounds items arguments);
-  buffers = replicate buffers (4 * items);
-  locals = [];
-}
+source_launch program kernel arguments items buffers =
+    kernel_launch program kernel (one_group items) (int_bounds items arguments) (replicate buffers (4 * items)) []

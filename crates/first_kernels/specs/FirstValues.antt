@@ -1,6 +1,7 @@
 use Rattle.std.specs.Prelude.{◌≡◌, ℕ, ◌+◌, ◌*◌, ◌/◌, ◌%◌, ◌^◌, ◌<◌, ◌≤◌, nat_lt, if◌then◌else◌, List, [], ◌∷◌, length, All}
 use Rattle.std.specs.List.{AllByRecursion}
-use Rattle.vx_base.specs.Bytes.{byte_of, number_of}
+use Rattle.vx_base.specs.Bytes.{byte_of}
+use Rattle.ocl_launch.specs.Launches.{number_in}
 use Rattle.item_acts.specs.Launches.{put_at}
 use Rattle.first_kernels.specs.FirstTree.{Tree, Literal, OwnId, OwnElement, Grouped, Applied, Assigns, Form}
 use Rattle.first_kernels.specs.First.{operated, array_of}
@@ -21,7 +22,7 @@ words_after arrays item (a ∷ more) words =
 
 -- the element of an item in each buffer
 abbrev pub words_at : (ℕ → ℕ → ℕ) → ℕ → ℕ → ℕ
-words_at bytes item buffer = number_of (λ k. bytes buffer (4 * item + k)) 4
+words_at bytes item buffer = number_in bytes buffer (4 * item) 4
 
 -- the bytes of the buffers once each item has made its assignments: its own elements have changed, and no other byte
 abbrev pub bytes_left : List ℕ → ℕ → List Assigns → (ℕ → ℕ → ℕ) → ℕ → ℕ → ℕ

@@ -2,13 +2,16 @@ ghost use Rattle.std.specs.Prelude.{◌≡◌};
 ghost use Rattle.first_kernels.specs.declared.unread.Unread.TheVariants.{Memory};
 
 use std::alloc::{AllocError, AllocFailed};
+use thiserror::Error;
 
 /// Why no kernel of assignments was found.
-#[derive(Clone, Copy, Debug, PartialEq, Eq)]
+#[derive(Clone, Copy, Debug, PartialEq, Eq, Error)]
 pub enum Unread {
     /// Memory ran out.
+    #[error("memory ran out")]
     Memory,
     /// What was looked at is of another form.
+    #[error("this is no part of a kernel of assignments")]
     OtherForm,
 }
 

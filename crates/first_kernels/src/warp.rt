@@ -2,6 +2,7 @@ ghost use Rattle.std.specs.Prelude.{◌≡◌, ◌≤◌, ◌↔◌, IsTrue, Mat
 ghost use Rattle.vx_base.specs.Bytes.{bytes_of};
 ghost use Rattle.first_kernels.specs.FirstWarp.{EndTogether, StepAmongOthers, StepTogether, carried, extended, held, idle, loaded, place_in, set_register, stored};
 
+use thiserror::Error;
 use vx_base::{Elem, Size, fit, get_le, put_le};
 use vx_isa::{Instr, LaneEffect, effect};
 
@@ -19,14 +20,17 @@ pub struct Lane {
 }
 
 /// Why a warp stops before its end.
-#[derive(Clone, Copy, Debug, PartialEq, Eq)]
+#[derive(Clone, Copy, Debug, PartialEq, Eq, Error)]
 pub enum WarpFault {
     /// A load or a store does not lie wholly inside memory.
+    #[error("a load or a store does not lie wholly inside memory")]
     OutsideMemory,
     /// A lane does what straight-line code does not: it goes elsewhere, stops, acts for the whole warp, or reads a number
     /// other than its own.
+    #[error("a lane does what straight-line code does not")]
     NotStraight,
     /// There is no instruction behind the last one.
+    #[error("there is no instruction behind the last one")]
     NoEnd,
 }
 

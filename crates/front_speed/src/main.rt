@@ -1,7 +1,8 @@
 //! The program `front_speed`: takes the tokens of a text that it makes, for measurements of speed (`bench/`). Its words are
 //! what the text is made of, `names`, `marks`, `uses` (of macros that use others), `nested` (macros that stand deep in one
 //! another), `undefs` (macros that are all undefined again), `program` (statements of one function, which it also parses),
-//! `functions` (a thousand functions, of which it also makes the program), `calls` (a kernel of calls of a helper) or `loops` (a
+//! `functions` (a thousand functions, of which it also makes the program), `chain` (helpers each of which calls the next, also
+//! made a program), `wide` (helpers each of which calls the first, too), `calls` (a kernel of calls of a helper) or `loops` (a
 //! kernel of loops that a `break` leaves), and how many bytes it has at most, up to 1,048,576. Of a kernel it also makes structured
 //! code without jumps, a hundred times. It prints the bytes and the tokens.
 #![tactic(auto)]
@@ -30,6 +31,8 @@ enum Kind {
     Undefs,
     Program,
     Functions,
+    Chain,
+    Wide,
     Calls,
     Loops,
 }
@@ -43,6 +46,8 @@ fn kind_of(word: &str) -> Option<Kind> {
         "undefs" => Some(Kind::Undefs),
         "program" => Some(Kind::Program),
         "functions" => Some(Kind::Functions),
+        "chain" => Some(Kind::Chain),
+        "wide" => Some(Kind::Wide),
         "calls" => Some(Kind::Calls),
         "loops" => Some(Kind::Loops),
         _ => None,
@@ -135,6 +140,38 @@ fn functions(alloc: Global, bytes: usize) -> Result<Vec<u8>, AllocError> {
     Ok(text)
 }
 
+/// Helpers each of which calls the next; the last calls none.
+fn chain(alloc: Global, bytes: usize) -> Result<Vec<u8>, AllocError> {
+    let mut text = Vec::new(alloc);
+    let mut last = 0;
+    for number in 0..99_999 {
+        let next = number + 1;
+        let line = format!(in alloc; "int f{number}(int a) {{ return f{next}(a); }}\n")?;
+        // (the last has at most 32 bytes)
+        if text.len() > bytes.saturating_sub(line.len()).saturating_sub(32) {
+            break;
+        }
+        text.extend_from_slice(line.as_bytes())?;
+        last = next;
+    }
+    let line = format!(in alloc; "int f{last}(int a) {{ return a; }}\n")?;
+    text.extend_from_slice(line.as_bytes())?;
+    Ok(text)
+}
+
+/// Helpers each of which calls the first.
+fn wide(alloc: Global, bytes: usize) -> Result<Vec<u8>, AllocError> {
+    let mut text = Vec::from_slice(alloc, b"int f(int a) { return a; }\n")?;
+    for number in 0..99_999 {
+        let line = format!(in alloc; "int f{number}(int a) {{ return f(a); }}\n")?;
+        if text.len() > bytes.saturating_sub(line.len()) {
+            break;
+        }
+        text.extend_from_slice(line.as_bytes())?;
+    }
+    Ok(text)
+}
+
 /// A kernel that calls a helper of 62 nodes again and again.
 fn calls(alloc: Global, bytes: usize) -> Result<Vec<u8>, AllocError> {
     let mut text = Vec::from_slice(alloc, b"int h(int a) { return ")?;
@@ -198,6 +235,8 @@ fn make_text(alloc: Global, kind: Kind, bytes: usize) -> Result<Vec<u8>, AllocEr
         Kind::Undefs => defined_and_undefined(alloc, bytes),
         Kind::Program => program(alloc, bytes),
         Kind::Functions => functions(alloc, bytes),
+        Kind::Chain => chain(alloc, bytes),
+        Kind::Wide => wide(alloc, bytes),
         Kind::Calls => calls(alloc, bytes),
         Kind::Loops => loops(alloc, bytes),
     }
@@ -209,7 +248,7 @@ fn is_taken(alloc: Global, kind: Kind, text: &[u8], tokens: &Tokens) -> bool
 {
     match kind {
         Kind::Program => parse(alloc, tokens).is_ok(),
-        Kind::Functions => front(alloc, text).is_ok(),
+        Kind::Functions | Kind::Chain | Kind::Wide => front(alloc, text).is_ok(),
         Kind::Calls | Kind::Loops => match front(alloc, text) {
             Ok(program) => is_passed(alloc, &program),
             Err(_fault) => false,

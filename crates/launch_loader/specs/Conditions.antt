@@ -1,4 +1,4 @@
--- Which machines there are, which launches can be checked, and where a launch's buffers and arrays lie.
+-- Which machines there are, which launches can be checked, and where the arrays of a launch lie.
 use Rattle.std.specs.Prelude.{◌≡◌, ℕ, suc, ◌+◌, ◌*◌, ◌%◌, ◌^◌, ◌<◌, ◌≤◌, max, List, [], ◌∷◌, length, map, slice_get, slice_index, Option, None, Some}
 use Rattle.vx_base.specs.Values.{elem_bytes}
 use Rattle.vx_base.specs.declared.types.ParamKind.{ParamKind}
@@ -40,6 +40,15 @@ pub record Case : Type 0 where
   pub shape : Shape
   pub buffers : List BufShape
 
+-- the launch of this image
+abbrev pub case_of : Image → Plan → Shape → List BufShape → Case
+case_of image plan shape buffers = record {
+  image = image;
+  plan = plan;
+  shape = shape;
+  buffers = buffers;
+}
+
 -- the bytes of a buffer
 abbrev pub span_of : BufShape → Span
 span_of b = record { start = b.start; size = b.count * elem_bytes b.elem }
@@ -62,7 +71,8 @@ bound_of kinds buffers k (Local count) = Array (locals_before kinds k) count
 -- what the parameters from number k on stand for
 abbrev pub bounds_from : List ParamKind → List BufShape → ℕ → List Arg → List Bound
 bounds_from kinds buffers k [] = []
-bounds_from kinds buffers k (arg ∷ args) = bound_of kinds buffers k arg ∷ bounds_from kinds buffers (suc k) args
+bounds_from kinds buffers k (arg ∷ args) =
+    bound_of kinds buffers k arg ∷ bounds_from kinds buffers (suc k) args
 
 -- where all that is of the launch lies
 abbrev pub layout_of : Case → Layout
@@ -90,7 +100,8 @@ pub record CanCheck (c : Case) : Type 0 where
   pub past_local : (d : ℕ) → c.plan.range.dims ≤ d → d < 3 → slice_index c.plan.range.local d ≡ 1
   pub known : (k b : ℕ) → slice_get c.plan.args k ≡ Some (Buffer b) → b < length c.buffers
   pub aligned : (i : ℕ) (b : BufShape) → slice_get c.buffers i ≡ Some b → b.start % 64 ≡ 0
-  pub inside : (i : ℕ) (b : BufShape) → slice_get c.buffers i ≡ Some b → b.start + b.count * elem_bytes b.elem ≤ 4194304
+  pub inside : (i : ℕ) (b : BufShape) → slice_get c.buffers i ≡ Some b
+      → b.start + b.count * elem_bytes b.elem ≤ 4194304
   pub apart : ApartByLines (map span_of c.buffers)
   pub words : length c.image.words ≤ 65536
   pub slots : c.image.slots ≤ 256

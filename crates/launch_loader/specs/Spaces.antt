@@ -16,7 +16,8 @@ are_other one other = false
 
 -- the buffer that is given for a parameter which is an array, and the space
 abbrev pub named : Option ParamKind → Option Arg → Option BufferUse
-named (Some (Pointer space elem readonly)) (Some (Buffer b)) = Some (record { space = space; buffer = b })
+named (Some (Pointer space elem readonly)) (Some (Buffer b)) =
+    Some (record { space = space; buffer = b })
 named kind given = None
 
 abbrev pub named_at : List ParamKind → List Arg → ℕ → Option BufferUse
@@ -31,11 +32,19 @@ clash None other = false
 abbrev pub clash_at : List ParamKind → List Arg → ℕ → ℕ → Bool
 clash_at kinds args j k = clash (named_at kinds args j) (named_at kinds args k)
 
+-- the place clashes with an earlier one
+abbrev pub ClashesEarlier : List ParamKind → List Arg → ℕ → Type 0
+ClashesEarlier kinds args k = (j : ℕ) × (j < k) × (clash_at kinds args j k ≡ true)
+
+-- it clashes with none
+abbrev pub IsClear : List ParamKind → List Arg → ℕ → Type 0
+IsClear kinds args k = (j : ℕ) → j < k → clash_at kinds args j k ≡ false
+
 -- the first place that clashes with an earlier one
 pub record IsBoth (kinds : List ParamKind) (args : List Arg) (place : ℕ) : Type 0 where
   pub inside : place < length args
-  pub earlier : (j : ℕ) × (j < place) × (clash_at kinds args j place ≡ true)
-  pub first : (k : ℕ) → k < place → (j : ℕ) → j < k → clash_at kinds args j k ≡ false
+  pub earlier : ClashesEarlier kinds args place
+  pub first : (k : ℕ) → k < place → IsClear kinds args k
 
 abbrev pub NoneBoth : List ParamKind → List Arg → Type 0
-NoneBoth kinds args = (k : ℕ) → k < length args → (j : ℕ) → j < k → clash_at kinds args j k ≡ false
+NoneBoth kinds args = (k : ℕ) → k < length args → IsClear kinds args k

@@ -12,8 +12,9 @@ use vx_base::ParamKind;
 ///
 /// # Errors
 ///
-/// `Arguments` exactly where there are not as many as parameters, else `Argument` at the first that its parameter does not
-/// take, else `Both` at the first that names a buffer which an earlier one names in the other of `__constant` and `__global`.
+/// `Arguments` exactly where there are not as many as parameters, else `Argument` at the first that its
+/// parameter does not take, else `Both` at the first that names a buffer which an earlier one names in
+/// the other of `__constant` and `__global`.
 pub fn check_arguments(
     buffers: &[BufShape],
     kinds: &[ParamKind],

@@ -5,13 +5,17 @@
 #![tactic(auto)]
 
 pub mod arguments;
+pub mod checked;
 pub mod checks;
 pub mod faults;
+pub mod locals;
 pub mod plans;
 pub mod ranges;
 pub mod shapes;
 pub mod spaces;
+pub mod words;
 
+pub use checked::Checked;
 pub use faults::LaunchFault;
 pub use plans::{Arg, ArgList, BufShape, BufShapeList, Plan};
 pub use shapes::{Evict, Sched, Shape};

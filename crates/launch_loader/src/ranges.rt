@@ -1,7 +1,7 @@
 //! Which ranges a machine takes.
-ghost use Rattle.std.specs.Prelude.{◌≡◌, ℕ, ◌*◌, ◌/◌, ◌%◌, ◌<◌, ◌≤◌, nat_eq, slice_index, MatchOption, MatchResult};
+ghost use Rattle.std.specs.Prelude.{◌≡◌, ℕ, ◌<◌, ◌≤◌, slice_index, MatchOption, MatchResult};
 ghost use Rattle.vx_layout.specs.Launching.{group_count, group_size, groups_in, size_in};
-ghost use Rattle.launch_loader.specs.Refusals.{Divides, IsFirstUneven, RefusesRange, TakesRange, kept, most_items};
+ghost use Rattle.launch_loader.specs.Refusals.{AllDivide, IsFirstUneven, RefusesRange, TakesRange, divides, kept};
 
 use crate::faults::LaunchFault;
 use item_acts::Range;
@@ -70,7 +70,7 @@ fn all_groups(range: &Range) -> u64
 fn divides(range: &Range, dimension: usize) -> bool
     requires within { dimension < 3 }
     requires some { 1 ≤ slice_index range.now.local dimension }
-    ensures { result ≡ nat_eq (slice_index range.now.global dimension % slice_index range.now.local dimension) 0 }
+    ensures { result ≡ divides range.now dimension }
 {
     range.global[dimension] % range.local[dimension] == 0
 }
@@ -78,7 +78,7 @@ fn divides(range: &Range, dimension: usize) -> bool
 /// The first dimension whose local size does not divide its global size.
 fn first_uneven(range: &Range) -> Option<usize>
     requires some { (d : ℕ) → d < 3 → 1 ≤ slice_index range.now.local d }
-    ensures { MatchOption result ((d : ℕ) → d < 3 → Divides range.now d) (IsFirstUneven range.now) }
+    ensures { MatchOption result (AllDivide range.now) (IsFirstUneven range.now) }
 {
     for dimension in 0..3 {
         if !divides(range, dimension) {
@@ -92,13 +92,15 @@ fn first_uneven(range: &Range) -> Option<usize>
 ///
 /// # Errors
 ///
-/// `Divide` exactly where a local size does not divide its global size, else `GroupSize` exactly where a group has more items
-/// than a core takes, else `Groups` exactly above 65,536 groups.
+/// `Divide` exactly where a local size does not divide its global size, else `GroupSize` exactly where a
+/// group has more items than a core takes, else `Groups` exactly above 65,536 groups.
 pub fn check_range(range: &Range, warps: u32, lanes: u32) -> Result<(), LaunchFault>
     requires some { (d : ℕ) → d < 3 → 1 ≤ slice_index range.now.local d }
     requires warps { warps ≤ 16 }
     requires lanes { lanes ≤ 32 }
-    ensures { MatchResult result (λ _. TakesRange range.now warps lanes) (RefusesRange range.now warps lanes) }
+    ensures { MatchResult result
+        (λ _. TakesRange range.now warps lanes)
+        (RefusesRange range.now warps lanes) }
 {
     if let Some(dimension) = first_uneven(range) {
         return Err(LaunchFault::Divide {

@@ -35,7 +35,7 @@ pub struct Shape {
     pub sets: u32,
     /// How many lines a set has, 1 to 8.
     pub ways: u32,
-    /// By how many banks the steps of a core on the shared memory are counted: a power of two, 1 to 16.
+    /// By how many banks a core's steps on the shared memory are counted: a power of two, 1 to 16.
     pub banks: u32,
     /// Which warp is picked.
     pub sched: Sched,
@@ -49,7 +49,17 @@ pub struct Shape {
 #[tactic(auto, using(crate::proofs::Steps::power_4, crate::proofs::Steps::power_16))]
 pub fn usual_shape() -> Shape
     ensures within { IsShape result }
-    ensures shape { result ≡ record { cores = 4; warps = 16; lanes = 32; sets = 16; ways = 4; banks = 4; sched = Sched.Round; evict = Evict.Oldest; turns = 16777216 } }
+    ensures shape { result ≡ record {
+      cores = 4;
+      warps = 16;
+      lanes = 32;
+      sets = 16;
+      ways = 4;
+      banks = 4;
+      sched = Sched.Round;
+      evict = Evict.Oldest;
+      turns = 16777216;
+    } }
 {
     Shape {
         cores: 4,

@@ -1,6 +1,6 @@
 //! Which buffers are named as `__constant` and as `__global`.
-ghost use Rattle.std.specs.Prelude.{◌≡◌, ℕ, ◌^◌, ◌<◌, true, false, length, MatchBool, MatchOption};
-ghost use Rattle.launch_loader.specs.Spaces.{IsBoth, NoneBoth, are_other, clash_at, named_at};
+ghost use Rattle.std.specs.Prelude.{◌≡◌, ◌^◌, ◌<◌, true, length, MatchBool, MatchOption};
+ghost use Rattle.launch_loader.specs.Spaces.{ClashesEarlier, IsBoth, IsClear, NoneBoth, are_other, clash_at, named_at};
 
 use crate::plans::Arg;
 use vx_base::{ParamKind, Space};
@@ -41,7 +41,8 @@ fn is_other(one: Space, other: Space) -> bool
     }
 }
 
-/// Whether the arguments at two places name one buffer, the one as `__constant` and the other as `__global`.
+/// Whether the arguments at two places name one buffer, the one as `__constant` and the other as
+/// `__global`.
 fn clashes(kinds: &[ParamKind], args: &[Arg], earlier: usize, place: usize) -> bool
     ensures { result ≡ clash_at kinds.now args.now earlier place }
 {
@@ -56,7 +57,7 @@ fn clashes(kinds: &[ParamKind], args: &[Arg], earlier: usize, place: usize) -> b
 
 /// An earlier place with which a place clashes.
 fn earlier_clash(kinds: &[ParamKind], args: &[Arg], place: usize) -> Option<usize>
-    ensures { MatchOption result ((j : ℕ) → j < place → clash_at kinds.now args.now j place ≡ false)
+    ensures { MatchOption result (IsClear kinds.now args.now place)
         (λ j. (j < place) × (clash_at kinds.now args.now j place ≡ true)) }
 {
     for earlier in 0..place {
@@ -69,8 +70,8 @@ fn earlier_clash(kinds: &[ParamKind], args: &[Arg], place: usize) -> Option<usiz
 
 /// Whether a place clashes with an earlier one.
 fn has_earlier_clash(kinds: &[ParamKind], args: &[Arg], place: usize) -> bool
-    ensures { MatchBool result ((j : ℕ) × (j < place) × (clash_at kinds.now args.now j place ≡ true))
-        ((j : ℕ) → j < place → clash_at kinds.now args.now j place ≡ false) }
+    ensures { MatchBool result (ClashesEarlier kinds.now args.now place)
+        (IsClear kinds.now args.now place) }
 {
     match earlier_clash(kinds, args, place) {
         Some(_) => true,
@@ -78,7 +79,8 @@ fn has_earlier_clash(kinds: &[ParamKind], args: &[Arg], place: usize) -> bool
     }
 }
 
-/// The place of the first argument that names a buffer which an earlier one names in the other of `__constant` and `__global`.
+/// The place of the first argument that names a buffer which an earlier one names in the other of
+/// `__constant` and `__global`.
 pub fn first_both(kinds: &[ParamKind], args: &[Arg]) -> Option<u32>
     requires few { length args.now < 2 ^ 32 }
     ensures { MatchOption result (NoneBoth kinds.now args.now) (IsBoth kinds.now args.now) }

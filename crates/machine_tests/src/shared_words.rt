@@ -1,4 +1,4 @@
-ghost use Rattle.std.specs.Prelude.{◌≡◌, ◌<◌, length, IfOk, bit_and};
+ghost use Rattle.std.specs.Prelude.{◌≡◌, ◌<◌, ◌≤◌, length, IfOk, bit_and};
 ghost use Rattle.memory_banks.specs.Ports.{IsOf, number, numbers, opening_of};
 
 use memory_banks::{Banks, Bus, PlainBus, Port, PortBus, bank_of, close, gather, ports, renew};
@@ -15,24 +15,27 @@ fn words_of(alloc: Global, words: &[u32]) -> Result<WordList, Fail>
     })
 }
 
-// Stores the numbers from 1 to 1000, by their low eight bits, to two bytes of word 0.
-fn store_bytes(banks: &Banks, mut port: Port, keep: u32, shift: u32) -> Port
+// A thousand stores by turns over sixteen words: of the low byte of the turn and of `add`, to byte `first` of a word and to the
+// second byte behind it by turns.
+fn store_bytes(banks: &Banks, mut port: Port, first: u32, add: u32) -> Port
     requires of { IsOf banks.now port }
-    requires words { 0 < length (opening_of banks.now) }
-    requires shift { shift < 32 }
+    requires words { 16 ≤ length (opening_of banks.now) }
+    requires small { (first < 2) × (add < 1000) }
     ensures { IsOf banks.now result × (number result ≡ number port) × (numbers result ≡ numbers port) }
 {
-    for count in 0..1000 {
-        let value = ((count + 1) & 0xff) << shift;
-        if keep & value == 0 {
-            port.store_part(banks, 0, keep, value);
+    for turn in 0..1000 {
+        let shift = 8 * (first + 2 * (turn / 16 % 2));
+        let bits = 0xff << shift;
+        let value = (turn + add) << shift & bits;
+        if !bits & value == 0 {
+            port.store_part(banks, turn % 16, !bits, value);
         }
     }
     port
 }
 
-fn store_both<R: Threads + Sync>(rt: &R, alloc: Global) -> Result<u32, Fail> {
-    let mut out = words_of(alloc, &[0x5566_7788])?;
+fn store_both<R: Threads + Sync>(rt: &R, alloc: Global) -> Result<WordList, Fail> {
+    let mut out = words_of(alloc, &[0x5566_7788; 16])?;
     let (banks, mut first) = Banks::of_words(alloc, &out)?;
     let mut made = ports(alloc, &banks, &mut first, 1)?;
     let Some(second) = made.items.pop() else {
@@ -41,24 +44,45 @@ fn store_both<R: Threads + Sync>(rt: &R, alloc: Global) -> Result<u32, Fail> {
     let (mut first, second) = join(
         rt,
         || -> Port
-            requires { IsOf banks first × (0 < length (opening_of banks)) }
+            requires { IsOf banks first × (16 ≤ length (opening_of banks)) }
             ensures { IsOf banks result × (number result ≡ number first) × (numbers result ≡ numbers first) }
-        { store_bytes(&banks, first, 0xff00_ffff, 16) },
+        { store_bytes(&banks, first, 0, 0) },
         || -> Port
-            requires { IsOf banks second × (0 < length (opening_of banks)) }
+            requires { IsOf banks second × (16 ≤ length (opening_of banks)) }
             ensures { IsOf banks result × (number result ≡ number second) × (numbers result ≡ numbers second) }
-        { store_bytes(&banks, second, 0xffff_ff00, 0) },
+        { store_bytes(&banks, second, 1, 500) },
     );
     made.items.push(second)?;
     gather(&banks, &mut first, made);
     close(banks, first, &mut out);
-    Ok(out.get(0).copied().unwrap_or(0))
+    Ok(out)
 }
 
 #[test]
-fn two_threads_store_bytes_of_one_word(rt: HostRuntime) -> Result<(), Fail> {
-    let word = store_both(&rt, rt.alloc())?;
-    assert_eq!(rt; word, 0x55e8_77e8);
+fn two_threads_store_alternate_bytes_of_words(rt: HostRuntime) -> Result<(), Fail> {
+    let words = store_both(&rt, rt.alloc())?;
+    assert_eq!(rt;
+        words.as_slice(),
+        [
+            0xc4d0_d4e0,
+            0xc5d1_d5e1,
+            0xc6d2_d6e2,
+            0xc7d3_d7e3,
+            0xc8d4_d8e4,
+            0xc9d5_d9e5,
+            0xcad6_dae6,
+            0xcbd7_dbe7,
+            0xccd8_bcc8,
+            0xcdd9_bdc9,
+            0xceda_beca,
+            0xcfdb_bfcb,
+            0xd0dc_c0cc,
+            0xd1dd_c1cd,
+            0xd2de_c2ce,
+            0xd3df_c3cf,
+        ]
+        .as_slice()
+    );
     Ok(())
 }
 
@@ -87,6 +111,29 @@ fn load_after_renewal(alloc: Global) -> Result<[u32; 4], Fail> {
 #[test]
 fn a_renewed_port_loads_what_was_stored(rt: HostRuntime) -> Result<(), Fail> {
     assert_eq!(rt; load_after_renewal(rt.alloc())?, [50, 7, 0x34, 2]);
+    Ok(())
+}
+
+// The same, where the port that renews the list is one that `ports` made.
+fn load_after_renewal_by_another(alloc: Global) -> Result<u32, Fail> {
+    let words = words_of(alloc, &[7, 8])?;
+    let (banks, mut first) = Banks::of_words(alloc, &words)?;
+    let mut made = ports(alloc, &banks, &mut first, 1)?;
+    let mut list = ports(alloc, &banks, &mut first, 1)?;
+    let Some(mut into) = made.items.pop() else {
+        return Ok(0);
+    };
+    into.store(&banks, 1, 60);
+    renew(&banks, &mut into, &mut list);
+    let Some(mut second) = list.items.pop() else {
+        return Ok(0);
+    };
+    Ok(second.load(&banks, 1))
+}
+
+#[test]
+fn a_port_that_was_made_renews_another(rt: HostRuntime) -> Result<(), Fail> {
+    assert_eq!(rt; load_after_renewal_by_another(rt.alloc())?, 60);
     Ok(())
 }
 

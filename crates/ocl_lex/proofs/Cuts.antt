@@ -1,7 +1,6 @@
 -- Pieces found by going on byte by byte.
-use Rattle.std.proofs.Common.{◌≡◌, ℕ, zero, suc, ◌+◌, ◌-◌, ◌<◌, ◌≤◌, List, [], ◌∷◌, ◌++◌, length, drop, refl, sym, ap, ◌∙◌, arith, get_or, append_assoc, append-nil}
-use Rattle.std.specs.Prelude.{slice_index}
-use Rattle.std.proofs.lemmas.List.{drop_more, drop_all}
+use Rattle.std.proofs.Common.{◌≡◌, ℕ, zero, suc, ◌-◌, ◌<◌, ◌≤◌, List, [], ◌∷◌, ◌++◌, length, drop, refl, sym, ap, ◌∙◌, arith, append_assoc, append-nil}
+use Rattle.std.proofs.lemmas.List.{drop_all}
 use Rattle.std.proofs.lemmas.List.Elements.{filter-append}
 use Rattle.ocl_lex.specs.declared.pieces.Front.{Front}
 use Rattle.ocl_lex.specs.declared.pieces.Piece.{Piece}
@@ -39,15 +38,6 @@ passes_begins covered p (c ∷ rest) before f left now none more front adds len 
     ap (λ l. now ++ shown_pieces (cuts l (after c p) rest)) len ∙ ap (λ l. l ++ shown_pieces (cuts (f.len - 1) (after c p) rest)) adds
     ∙ append_assoc before (shown_pieces (piece_at p f ∷ [])) (shown_pieces (cuts (f.len - 1) (after c p) rest)) in
     four ∙ three ∙ sym five
-
-pub passes_on : (text : List ℕ) (i : ℕ) (total before now : List Piece) (covered left : ℕ) (p : Place) (b : ℕ) → i < length text → b ≡ slice_index text i
-    → total ≡ before ++ shown_pieces (cuts covered p (drop i text)) → Passes covered p (drop i text) before left now
-    → total ≡ now ++ shown_pieces (cuts left (after b p) (drop (i + 1) text))
-passes_on text i total before now covered left p b within byte so_far passes =
-    let one : drop i text ≡ get_or text i 0 ∷ drop (i + 1) text = drop_more text i 0 within in
-    let first : slice_index (drop i text) 0 ≡ b = rw one (sym byte) in
-    let rest : drop 1 (drop i text) ≡ drop (i + 1) text = rw one refl in
-    so_far ∙ passes ∙ ap (λ c. now ++ shown_pieces (cuts left (after c p) (drop 1 (drop i text)))) first ∙ ap (λ l. now ++ shown_pieces (cuts left (after b p) l)) rest
 
 pub none_left : (covered : ℕ) (p : Place) → cuts covered p [] ≡ []
 unfolding cuts

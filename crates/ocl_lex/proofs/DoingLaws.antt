@@ -12,7 +12,7 @@ use Rattle.ocl_lex.specs.declared.pieces.Piece.{Piece}
 use Rattle.ocl_lex.specs.Doing.{Does, Raises, Silently}
 use Rattle.ocl_lex.specs.Events.{Event, Stop}
 use Rattle.ocl_lex.specs.Lines.{Effect, State, directive_line, effect, end_token, ends, events, is_hash, lines, part_shown, piece_events, plain_line, skips}
-use Rattle.ocl_lex.specs.Telling.{Tells, answer}
+use Rattle.ocl_lex.specs.Telling.{answer}
 use Rattle.ocl_lex.proofs.TellingLaws.{stop_told}
 
 pub stops_silently : {T : Type 0} (r : Result T LexFault) (f : LexFault) (e : Effect) (now : State) → IsErrAnd r (λ g. g ≡ f)
@@ -27,10 +27,6 @@ silently_does (Err f) out e now (inl memory) = inl memory
 silently_does (Err f) out e now (inr (rest, stops)) = inr (λ more. ap (λ l. answer out (l ++ more)) stops ∙ stop_told out.tokens.items out.left f (rest ++ more))
 
 -- a line that leaves the state
-pub tells_does : {T : Type 0} (r : Result T LexFault) (old new : Output) (e : Effect) (s : State) → e.next ≡ s → Tells r old new e.events → Does r old e new s
-tells_does (Ok x) old new e s next tells = (next, tells)
-tells_does (Err f) old new e s next tells = tells
-
 pub raises_does : {T : Type 0} (r : Result T LexFault) (out : Output) (e : Effect) (s : State) → e.next ≡ s → Raises r e.events → Does r out e out s
 raises_does (Ok x) out e s next none = (next, λ more. ap (λ l. answer out (l ++ more)) (sym none))
 raises_does (Err f) out e s next (rest, stops) = inr (λ more. ap (λ l. answer out (l ++ more)) stops ∙ stop_told out.tokens.items out.left f (rest ++ more))
@@ -83,10 +79,6 @@ plain_read text s line rest p split hash =
 
 pub plain_skipped : (text : List ℕ) (s : State) (line : List Piece) → part_shown s.conditions ≡ false → plain_line text s line ≡ skips line s
 plain_skipped text s line hidden = ap (λ b. if b then record { events = flat_map (piece_events text s.macros) line; next = s } else skips line s) hidden
-
-pub plain_shown : (text : List ℕ) (s : State) (line : List Piece) → part_shown s.conditions ≡ true
-    → plain_line text s line ≡ record { events = flat_map (piece_events text s.macros) line; next = s }
-plain_shown text s line shown = ap (λ b. if b then record { events = flat_map (piece_events text s.macros) line; next = s } else skips line s) shown
 
 -- ---- the end
 

@@ -4,7 +4,6 @@ use Rattle.std.specs.Prelude.{slice_get, if◌then◌else◌}
 use Rattle.std.specs.Borrow.{Bor}
 use Rattle.std.specs.Option.{is_some, option_to_list}
 use Rattle.std.specs.Str.{bytes_eq}
-use Rattle.std.specs.Map.{lookup}
 use Rattle.indexmap.specs.IndexMap.{insert_entry, set_value_at}
 use Rattle.std.proofs.lemmas.List.{length-append}
 use Rattle.std.proofs.Math.Seq.{take-append_seam}
@@ -34,9 +33,6 @@ pending_push text at macros (g ∷ frames) f =
 -- names decide
 same_names : (a b : List ℕ) → bytes_eq a b ≡ true → a ≡ b
 same_names a b h = (bytes_eq-Decides a b).0 h
-
-own_name : (a b : List ℕ) → a ≡ b → bytes_eq a b ≡ true
-own_name a b h = (bytes_eq-Decides a b).1 h
 
 -- a look-up in macros without a name
 other_name : (name hidden : List ℕ) (macros : Macros) → bytes_eq name hidden ≡ false → replacement_of name (without hidden macros) ≡ replacement_of name macros
@@ -103,9 +99,6 @@ opened_at_end name body [] closed = refl
 opened_at_end name body (f ∷ frames) closed = by_test (bytes_eq name.now f.0.now)
     (λ t. absurd (true≢false (rw t at closed)))
     (λ t. rw t (ap (λ rest. f ∷ rest) (opened_at_end name body frames (rw t at closed))))
-
-pub none_open : (name : List ℕ) (frames : Frames) → lookup (λ k. bytes_eq name k.now) frames ≡ None → is_open name frames ≡ false
-none_open name frames none = ap is_some none
 
 empty : {A : Type 0} (xs : List A) → length xs ≡ 0 → xs ≡ []
 empty [] h = refl

@@ -1,10 +1,8 @@
 -- The parts behind the name of a `#define`, read one after another.
-use Rattle.std.proofs.Common.{◌≡◌, ℕ, ◌+◌, ◌<◌, ◌≤◌, List, [], ◌∷◌, ◌++◌, length, drop, get_or, Ok, Err, sym, ap, ◌∙◌, append_assoc, append-nil}
-use Rattle.std.proofs.lemmas.List.{drop_more, drop_all}
-use Rattle.ocl_lex.specs.declared.faults.LexFault.{LexFault}
+use Rattle.std.proofs.Common.{◌≡◌, ℕ, ◌+◌, ◌<◌, List, [], ◌∷◌, ◌++◌, length, drop, get_or, Ok, sym, ap, ◌∙◌, append_assoc}
+use Rattle.std.proofs.lemmas.List.{drop_more}
 use Rattle.ocl_lex.specs.declared.parts.Part.{Part}
 use Rattle.ocl_lex.specs.declared.pieces.Piece.{Piece}
-use Rattle.ocl_lex.specs.Events.{Event, Stop}
 use Rattle.ocl_lex.specs.Lines.{faults_in, faults_of, parts_in, parts_of}
 use Rattle.ocl_lex.specs.Parts.{part_of}
 
@@ -25,17 +23,3 @@ reads_more text pieces i parts now d p within is pushed h =
       so_far = h.so_far ∙ ap (λ l. parts ++ l) more ∙ sym (append_assoc parts (p ∷ []) (parts_of text (drop (i + 1) pieces)))
           ∙ ap (λ l. l ++ parts_of text (drop (i + 1) pieces)) (sym pushed);
     }
-
-pub reads_fault : (text : List ℕ) (pieces : List Piece) (i : ℕ) (parts : List Part) (d : Piece) (f : LexFault) → i < length pieces → Err f ≡ part_of text (get_or pieces i d)
-    → ReadsSome text pieces i parts → (rest : List Event) × (faults_of text pieces ≡ Stop f ∷ rest)
-reads_fault text pieces i parts d f within is h =
-    let one : drop i pieces ≡ get_or pieces i d ∷ drop (i + 1) pieces = drop_more pieces i d within in (
-      faults_of text (drop (i + 1) pieces),
-      h.faultless ∙ ap (faults_of text) one ∙ ap (λ r. faults_in r ++ faults_of text (drop (i + 1) pieces)) (sym is),
-    )
-
-pub reads_all : (text : List ℕ) (pieces : List Piece) (i : ℕ) (parts : List Part) → length pieces ≤ i → ReadsSome text pieces i parts
-    → (faults_of text pieces ≡ []) × (parts ≡ parts_of text pieces)
-reads_all text pieces i parts past h =
-    let none : drop i pieces ≡ [] = drop_all i pieces past in
-    (h.faultless ∙ ap (faults_of text) none, sym (h.so_far ∙ ap (λ l. parts ++ parts_of text l) none ∙ append-nil parts))

@@ -19,12 +19,6 @@ Raises result events = MatchResult result
     (λ _. events ≡ [])
     (λ f. (rest : List Event) × (events ≡ Stop f ∷ rest))
 
--- the same, where memory may run out
-abbrev pub RaisesOrFull : {T : Type 0} → Result T LexFault → List Event → Type 0
-RaisesOrFull result events = MatchResult result
-    (λ _. events ≡ [])
-    (λ f. (f ≡ fault.Memory) ⊎ ((rest : List Event) × (events ≡ Stop f ∷ rest)))
-
 -- the macros and the conditions, the innermost first
 abbrev pub state_of : Context → State
 state_of c = record { macros = c.macros; conditions = reverse c.conditions.items }

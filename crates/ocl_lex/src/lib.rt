@@ -3,7 +3,8 @@
 //! Read first `specs/Lines.antt`, which ends in `tokens_of`, the tokens of a text or its first fault. It stands on
 //! `specs/Pieces.antt` (a text cut into names, numbers and punctuators), `Literals`, `Words` and `Marks` (what these are),
 //! `Macros` (what a name shows that is a macro) and `Events` (the limit on tokens). `proofs/WorkedTokens.antt` computes the
-//! definition on small texts.
+//! definition on small texts. `specs/Spans.antt` says where tokens stand in their text. The other specs, `Cutting`, `Tables`,
+//! `Frames`, `Telling` and `Doing`, retell the state of the code for the proof, and no contract of [`lex`] cites them.
 //!
 //! The code goes the same way in two passes. `pieces` makes a list of the pieces of the text; `bytes`, `marks`, `literals` and
 //! `words` read one piece each. `reading` goes over the lines of that list: `context` does what directives say, with what

@@ -1,5 +1,5 @@
 -- Two expansions whose callees are alike up to the cut are alike.
-use Rattle.std.proofs.Common.{◌≡◌, ℕ, ◌+◌, max, List, [], ◌∷◌, map, sum, fold, slice_get, Option, None, Some, refl, sym, ◌∙◌, arith}
+use Rattle.std.proofs.Common.{◌≡◌, ℕ, suc, ◌+◌, max, List, [], ◌∷◌, map, sum, fold, slice_get, Option, None, Some, refl, sym, ◌∙◌, arith}
 use Rattle.ocl_program.specs.Nodes.{ExprNode, NumberNode, VariableNode, UnaryNode, BinaryNode, BothNode, EitherNode, ChooseNode, CastNode, LoadNode, CallNode, BuiltinNode, ParenNode, ArgNodes, NoArgs, ValueArg, ArrayArg, StmtNode, DeclareNode, LocalArrayNode, SetVariableNode, SetElementNode, CallStmtNode, BarrierNode, IfNode, IfElseNode, WhileNode, DoNode, ForNode, BreakNode, ContinueNode, ReturnNode, BlockNode, EmptyNode, StmtNodes, NoStmts, AndStmt, FunctionNode}
 use Rattle.ocl_program.specs.Measures.{cut, where_some, nodes, args_nodes, stmt_size, stmts_size, depth, args_depth, stmt_depth, stmts_depth, control, args_control, stmt_control, stmts_control, greatest, callees, at_call, own_variables, own_sites, own_nodes, own_depth, own_control, own_calls}
 
@@ -155,40 +155,44 @@ mutual
   stmts_control_alike f g same NoStmts = alike_self
   stmts_control_alike f g same (AndStmt s ss) = max_alike (stmt_control_alike f g same s) (stmts_control_alike f g same ss)
 
--- sums and greatest of lists that are alike one by one
-adds_alike : (f g : ℕ → ℕ) → ((k : ℕ) → Alike (f k) (g k)) → (a b : ℕ) → Alike a b → (ks : List ℕ) → Alike (fold (λ s x. s + x) a (map f ks)) (fold (λ s x. s + x) b (map g ks))
-adds_alike f g same a b h [] = h
-adds_alike f g same a b h (k ∷ ks) = adds_alike f g same (a + f k) (b + g k) (plus_alike h (same k)) ks
+-- ---- what a function has, where what its callees have is alike
 
-pub sum_alike : (f g : ℕ → ℕ) → ((k : ℕ) → Alike (f k) (g k)) → (ks : List ℕ) → Alike (sum (map f ks)) (sum (map g ks))
-sum_alike f g same ks = adds_alike f g same 0 0 alike_self ks
+abbrev pub AlikeIn : List ℕ → (ℕ → ℕ) → (ℕ → ℕ) → Type 0
+AlikeIn ks g h = (i k : ℕ) → slice_get ks i ≡ Some k → Alike (g k) (h k)
 
-pub greatest_alike : (f g : ℕ → ℕ) → ((k : ℕ) → Alike (f k) (g k)) → (ks : List ℕ) → Alike (greatest (map f ks)) (greatest (map g ks))
-greatest_alike f g same [] = alike_self
-greatest_alike f g same (k ∷ ks) = max_alike (same k) (greatest_alike f g same ks)
+adds_alike : (f g : ℕ → ℕ) (ks : List ℕ) → AlikeIn ks f g → (a b : ℕ) → Alike a b → Alike (fold (λ s x. s + x) a (map f ks)) (fold (λ s x. s + x) b (map g ks))
+adds_alike f g [] same a b h = h
+adds_alike f g (k ∷ ks) same a b h = adds_alike f g ks (λ i j e. same (suc i) j e) (a + f k) (b + g k) (plus_alike h (same 0 k refl))
 
-called_alike : (g h : ℕ → ℕ) → ((k : ℕ) → Alike (g k) (h k)) → (found : Option ℕ) → Alike (where_some g found) (where_some h found)
-called_alike g h same None = alike_self
-called_alike g h same (Some k) = same k
+pub sum_alike : (f g : ℕ → ℕ) (ks : List ℕ) → AlikeIn ks f g → Alike (sum (map f ks)) (sum (map g ks))
+sum_alike f g ks same = adds_alike f g ks same 0 0 alike_self
 
--- that what a function has depends on its callees up to the cut
+pub greatest_alike : (f g : ℕ → ℕ) (ks : List ℕ) → AlikeIn ks f g → Alike (greatest (map (λ k. f k + 1) ks)) (greatest (map (λ k. g k + 1) ks))
+greatest_alike f g [] same = alike_self
+greatest_alike f g (k ∷ ks) same = max_alike (plus_alike (same 0 k refl) alike_self) (greatest_alike f g ks (λ i j e. same (suc i) j e))
+
+called_alike : (g h : ℕ → ℕ) (found : Option ℕ) → ((k : ℕ) → found ≡ Some k → Alike (g k) (h k)) → Alike (where_some g found) (where_some h found)
+called_alike g h None same = alike_self
+called_alike g h (Some k) same = same k refl
+
+-- that what a function has depends on its callees alone, up to the cut
 abbrev pub Respects : (FunctionNode → (ℕ → ℕ) → ℕ) → Type 0
-Respects own = (f : FunctionNode) (g h : ℕ → ℕ) → ((k : ℕ) → Alike (g k) (h k)) → Alike (own f g) (own f h)
+Respects own = (f : FunctionNode) (g h : ℕ → ℕ) → AlikeIn (callees f) g h → Alike (own f g) (own f h)
 
 pub variables_respect : Respects own_variables
-variables_respect f g h same = plus_alike alike_self (sum_alike g h same (callees f))
+variables_respect f g h same = plus_alike alike_self (sum_alike g h (callees f) same)
 
 pub sites_respect : Respects own_sites
-sites_respect f g h same = plus_alike alike_self (sum_alike g h same (callees f))
+sites_respect f g h same = plus_alike alike_self (sum_alike g h (callees f) same)
 
 pub calls_respect : Respects own_calls
-calls_respect f g h same = greatest_alike (λ k. g k + 1) (λ k. h k + 1) (λ k. plus_alike (same k) alike_self) (callees f)
+calls_respect f g h same = greatest_alike g h (callees f) same
 
 pub nodes_respect : Respects own_nodes
-nodes_respect f g h same = stmts_size_alike (at_call f g) (at_call f h) (λ k. called_alike g h same (slice_get (callees f) k)) f.body
+nodes_respect f g h same = stmts_size_alike (at_call f g) (at_call f h) (λ k. called_alike g h (slice_get (callees f) k) (λ c e. same k c e)) f.body
 
 pub depth_respect : Respects own_depth
-depth_respect f g h same = stmts_depth_alike (at_call f g) (at_call f h) (λ k. called_alike g h same (slice_get (callees f) k)) f.body
+depth_respect f g h same = stmts_depth_alike (at_call f g) (at_call f h) (λ k. called_alike g h (slice_get (callees f) k) (λ c e. same k c e)) f.body
 
 pub control_respect : Respects own_control
-control_respect f g h same = stmts_control_alike (at_call f g) (at_call f h) (λ k. called_alike g h same (slice_get (callees f) k)) f.body
+control_respect f g h same = stmts_control_alike (at_call f g) (at_call f h) (λ k. called_alike g h (slice_get (callees f) k) (λ c e. same k c e)) f.body

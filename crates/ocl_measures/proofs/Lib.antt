@@ -1,6 +1,10 @@
 pub mod Alike
-pub mod Deeper
-pub mod Leading
+pub mod Beginning
 pub mod Lookups
+pub mod Meeting
+pub mod Owning
+pub mod Reaching
+pub mod Searching
+pub mod Stacks
 pub mod Steps
 pub mod Sums

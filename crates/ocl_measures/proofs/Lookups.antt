@@ -1,5 +1,5 @@
 -- The callee of a call in a table of calls.
-use Rattle.std.proofs.Common.{◌≡◌, ℕ, List, map, slice_get, Option, None, Some, option_map, ap, ◌∙◌}
+use Rattle.std.proofs.Common.{◌≡◌, ℕ, List, map, slice_get, None, Some, option_map, ap, ◌∙◌}
 use Rattle.std.proofs.lemmas.Option.{slice_get-map}
 use Rattle.ocl_program.specs.declared.functions.CallSite.{CallSite}
 

@@ -1,5 +1,5 @@
 -- What is added up call by call, each step cut, is the cut of the whole.
-use Rattle.std.proofs.Common.{◌≡◌, ℕ, ◌+◌, ◌≤◌, ◌-◌, ◌^◌, max, List, [], ◌∷◌, map, sum, fold, refl, sym, ap, ◌∙◌, arith}
+use Rattle.std.proofs.Common.{◌≡◌, ℕ, ◌+◌, ◌≤◌, ◌-◌, ◌^◌, max, List, [], ◌∷◌, map, sum, fold, ap, ◌∙◌, arith}
 use Rattle.std.proofs.lemmas.List.Sums.{sum_by-cons}
 use Rattle.ocl_program.specs.declared.functions.CallSite.{CallSite}
 use Rattle.ocl_program.specs.Measures.{cut, greatest}

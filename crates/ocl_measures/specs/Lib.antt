@@ -1,3 +1,5 @@
+pub mod Answers
 pub mod Recursion
+pub mod Search
 pub mod Sizes
 pub mod Totals

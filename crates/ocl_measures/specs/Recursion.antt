@@ -1,7 +1,6 @@
 -- Which functions reach a call of themselves.
-use Rattle.std.specs.Prelude.{ℕ, zero, suc, ◌==◌, Bool, true, false, ◌||◌, List, [], length, map, slice_get, Option, None, Some}
+use Rattle.std.specs.Prelude.{◌≡◌, ℕ, zero, suc, ◌<◌, ◌==◌, Bool, true, false, ◌||◌, List, [], length, slice_get, Option, None, Some}
 use Rattle.std.specs.List.{list_any}
-use Rattle.std.specs.Option.{unwrap_or}
 use Rattle.ocl_program.specs.declared.functions.CallSite.{CallSite}
 use Rattle.ocl_program.specs.Nodes.{FunctionNode}
 
@@ -22,10 +21,16 @@ leads program to (suc n) from = some_leads (leads program to n) to (calls_at (sl
 abbrev pub is_recursive : List FunctionNode → ℕ → Bool
 is_recursive program k = leads program k (length program) k
 
--- whether a table has a mark for function k
-abbrev pub marked : List Bool → ℕ → Bool
-marked marks k = unwrap_or (slice_get marks k) false
+-- that no function reaches a call of itself
+abbrev pub NoneRecursive : List FunctionNode → Type 0
+NoneRecursive program = (k : ℕ) → is_recursive program k ≡ false
 
--- the functions that lead to function `to` by a call whose callee is it or is marked
-abbrev pub marked_next : List FunctionNode → ℕ → List Bool → List Bool
-marked_next program to marks = map (λ (f : FunctionNode). some_leads (marked marks) to f.calls) program
+-- that a function of the program reaches a call of itself
+pub record IsRecursive (program : List FunctionNode) (k : ℕ) : Type 0 where
+  pub within : k < length program
+  pub calls : is_recursive program k ≡ true
+
+-- that a function is the first that reaches a call of itself
+pub record IsFirstRecursive (program : List FunctionNode) (k : ℕ) : Type 0 where
+  pub here : IsRecursive program k
+  pub none_before : (j : ℕ) → j < k → is_recursive program j ≡ false

@@ -1,9 +1,10 @@
 //! How large the functions of a program are once each call of a helper stands for the helper's body.
 //!
-//! Nothing is expanded: `sizes` measures a body where the sizes of its callees are known, and `rounds` measures all
-//! functions of a program, one call deeper in each round.
+//! Nothing is expanded: `sizes` measures a body where the sizes of its callees are known, and `search` goes through the
+//! functions of a program with callees before their callers, or finds the first function that reaches a call of itself.
 #![tactic(auto)]
 
 pub mod recursion;
-pub mod rounds;
+pub mod search;
 pub mod sizes;
+pub mod totals;

@@ -1,48 +1,38 @@
 //! Functions that reach a call of themselves.
-ghost use Rattle.std.specs.Prelude.{◌≡◌, IfOk, map};
+ghost use Rattle.std.specs.Prelude.{◌≡◌, ℕ, IfNone, IfOk, IfSome, Bool, map, true};
 ghost use Rattle.ocl_program.specs.Shapes.{function_node};
-ghost use Rattle.ocl_measures.specs.Recursion.{is_recursive as is_recursive_of, marked, some_leads};
+ghost use Rattle.ocl_measures.specs.Recursion.{IsFirstRecursive, IsRecursive, is_recursive as is_recursive_of};
+ghost use Rattle.ocl_measures.specs.Search.{From, IsTaken, met_at};
 
+use crate::search::push_callees;
 use ocl_program::TypedFunction;
 use std::alloc::{AllocError, Global};
 
-/// Whether a function is marked.
-fn is_marked(marks: &[bool], function: u32) -> bool
-    ensures { result ≡ marked marks.now function }
+/// Whether a function has been met; one that is not there has.
+fn is_met(met: &[bool], function: u32) -> bool
+    ensures { result ≡ met_at met.now function }
 {
-    match marks.get(function as usize) {
-        Some(mark) => *mark,
-        None => false,
+    match met.get(function as usize) {
+        Some(met) => *met,
+        None => true,
     }
 }
 
-/// Whether a function calls function `to` or one that is marked.
-fn leads_on(function: &TypedFunction, to: u32, marks: &[bool]) -> bool
-    ensures { result ≡ some_leads (marked marks.now) to function.now.calls.items }
+/// Takes the last function that has not been met.
+#[tactic(auto, using(crate::proofs::Meeting::none_taken, crate::proofs::Meeting::one_taken, crate::proofs::Meeting::new_taken, crate::proofs::Meeting::all_met))]
+fn take_new(todo: &mut Vec<u32>, met: &[bool]) -> Option<u32>
+    ensures some { IfSome result (λ c. IsTaken met.now todo.old.items todo.new.items c) }
+    ensures none { IfNone result ((v : ℕ) → From 0 todo.old.items v → met_at met.now v ≡ true) }
 {
-    function
-        .calls
-        .iter()
-        .any(|call| call.callee == to || is_marked(marks, call.callee))
+    while let Some(callee) = todo.pop() {
+        if !is_met(met, callee) {
+            return Some(callee);
+        }
+    }
+    None
 }
 
-/// Marks the functions that call function `to` or one that is marked.
-fn next_marks(
-    alloc: Global,
-    functions: &[TypedFunction],
-    to: u32,
-    marks: &[bool],
-) -> Result<Vec<bool>, AllocError>
-    ensures { IfOk result (λ next. next.items ≡ map (λ (f : TypedFunction). some_leads (marked marks.now) to f.calls.items) functions.now) }
-{
-    functions
-        .iter()
-        .map(|function| leads_on(function, to, marks))
-        .collect(alloc)
-}
-
-/// Whether a function can reach a call of itself.
-#[tactic(auto, using(crate::proofs::Leading::marks_of_functions, crate::proofs::Leading::none_marked, crate::proofs::Leading::one_call_more, crate::proofs::Leading::steady_at_once))]
+/// Whether a function can reach a call of itself: looks at each call of the functions that it reaches once.
 pub fn is_recursive(
     alloc: Global,
     functions: &[TypedFunction],
@@ -50,13 +40,37 @@ pub fn is_recursive(
 ) -> Result<bool, AllocError>
     ensures { IfOk result (λ found. found ≡ is_recursive_of (map function_node functions.now) function) }
 {
-    let mut marks = Vec::new(alloc);
-    for round in 0..functions.len() {
-        let next = next_marks(alloc, functions, function, marks.as_slice())?;
-        if next.as_slice() == marks.as_slice() {
-            return Ok(is_marked(marks.as_slice(), function));
-        }
-        marks = next;
+    let mut met = vec![in alloc; false; functions.len()]?;
+    let mut todo = Vec::new(alloc);
+    match functions.get(function as usize) {
+        Some(first) => push_callees(&mut todo, first.calls.as_slice())?,
+        None => return Ok(false),
     }
-    Ok(is_marked(marks.as_slice(), function))
+    while let Some(callee) = take_new(&mut todo, met.as_slice()) {
+        if callee == function {
+            return Ok(true);
+        }
+        let place = callee as usize;
+        push_callees(&mut todo, functions[place].calls.as_slice())?;
+        met[place] = true;
+    }
+    Ok(false)
+}
+
+/// The first function that reaches a call of itself, where this one does.
+#[tactic(auto, using(crate::proofs::Meeting::none_yet, crate::proofs::Meeting::one_not, crate::proofs::Meeting::first_here, crate::proofs::Meeting::first_found))]
+pub fn first_recursive(
+    alloc: Global,
+    functions: &[TypedFunction],
+    found: u32,
+) -> Result<u32, AllocError>
+    requires { IsRecursive (map function_node functions.now) found }
+    ensures { IfOk result (λ first. IsFirstRecursive (map function_node functions.now) first) }
+{
+    for number in 0..found {
+        if is_recursive(alloc, functions, number)? {
+            return Ok(number);
+        }
+    }
+    Ok(found)
 }

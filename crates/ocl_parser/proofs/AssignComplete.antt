@@ -1,21 +1,20 @@
 -- Each text of an assignment is read.
-use Rattle.std.proofs.Common.{◌≡◌, ◌⊎◌, inl, inr, refl, sym, subst, ap, ◌∙◌, Bool, true, false, List, [], ◌∷◌, Option, Some, None, true≢false}
+use Rattle.std.proofs.Common.{◌≡◌, inl, inr, refl, sym, subst, ap, ◌∙◌, Bool, true, false, List, [], ◌∷◌, Option, Some, None, true≢false}
 use Rattle.vx_base.specs.declared.types.Pos.{Pos}
-use Rattle.ocl_ast.specs.declared.exprs.BinOp.{BinOp}
 use Rattle.ocl_ast.specs.declared.exprs.BinOp.TheVariants.{Mul, Div, Rem, Add, Sub, Shl, Shr, Lt, Gt, Le, Ge, Eq, Ne, And, Xor, Or}
 use Rattle.ocl_ast.specs.declared.exprs.Ident.{Ident}
 use Rattle.ocl_ast.specs.declared.stmts.AssignOp.{AssignOp}
 use Rattle.ocl_ast.specs.declared.stmts.AssignOp.TheVariants.{Set, With, Up, Down}
-use Rattle.ocl_ast.specs.Trees.{ExprTree, TargetTree, NameTarget, IndexTarget, StmtTree, AssignTree}
+use Rattle.ocl_ast.specs.Trees.{ExprTree, TargetTree, NameTarget, IndexTarget, AssignTree}
 use Rattle.ocl_tokens.specs.declared.marks.Mark.{Mark}
-use Rattle.ocl_tokens.specs.declared.marks.Mark.TheVariants.{OpenParen, CloseParen, OpenBracket, CloseBracket, Semicolon, Comma, Equal, PlusPlus, MinusMinus, PlusEqual, MinusEqual, StarEqual, SlashEqual, PercentEqual, ShiftLeftEqual, ShiftRightEqual, AmpersandEqual, CaretEqual, BarEqual}
+use Rattle.ocl_tokens.specs.declared.marks.Mark.TheVariants.{OpenParen, OpenBracket, CloseBracket, Equal, PlusPlus, MinusMinus, PlusEqual, MinusEqual, StarEqual, SlashEqual, PercentEqual, ShiftLeftEqual, ShiftRightEqual, AmpersandEqual, CaretEqual, BarEqual}
 use Rattle.ocl_tokens.specs.declared.tokens.Token.{Token}
 use Rattle.ocl_tokens.specs.declared.tokens.TokenKind.{TokenKind}
-use Rattle.ocl_tokens.specs.declared.tokens.TokenKind.TheVariants.{Name as NameKind, Word as WordKind, Number as NumberKind, Mark as MarkKind, End}
-use Rattle.ocl_parser.specs.Spellings.{Rest, no_text, one, mark, mark_at, name, set_mark}
+use Rattle.ocl_tokens.specs.declared.tokens.TokenKind.TheVariants.{Name as NameKind, Mark as MarkKind}
+use Rattle.ocl_parser.specs.Spellings.{Rest, no_text, one, mark_at}
 use Rattle.ocl_parser.specs.Exprs.{expr_text, IsGroupedIfAny}
-use Rattle.ocl_parser.specs.Stmts.{target_text, set_text, count_text, assign_text, IsGroupedTarget}
-use Rattle.ocl_parser.specs.StmtSteps.{StmtNext, GoesOn, stmt_step, assign_start, assign_named, target_step, counted_named, assign_end}
+use Rattle.ocl_parser.specs.Stmts.{target_text, count_text, assign_text, IsGroupedTarget}
+use Rattle.ocl_parser.specs.StmtSteps.{GoesOn, assign_start, assign_named, target_step, counted_named, assign_end}
 use Rattle.ocl_parser.specs.declared.states.ExprFocus.TheVariants.{Operand}
 use Rattle.ocl_parser.specs.declared.states.Part.{Part}
 use Rattle.ocl_parser.specs.declared.states.Purpose.TheVariants.{IndexOf, CountedIndexOf, ValueOf}
@@ -23,8 +22,8 @@ use Rattle.ocl_parser.specs.declared.states.StmtFocus.{StmtFocus}
 use Rattle.ocl_parser.specs.declared.states.StmtFocus.TheVariants.{Reading, AssignNext, AssignNamed, CountedBefore, CountedNamed, Targeted, Assigned}
 use Rattle.ocl_parser.specs.declared.states.StmtFrame.{StmtFrame}
 use Rattle.ocl_parser.proofs.Texts.{Leads}
-use Rattle.ocl_parser.proofs.ExprComplete.{Follows, IsBehind, is_behind}
-use Rattle.ocl_parser.proofs.StmtTakes.{TakesStmts, is_closer, IsCloser, Closers, stmt_at, stmt_one, expr_then, expr_mark}
+use Rattle.ocl_parser.proofs.ExprComplete.{Follows, is_behind}
+use Rattle.ocl_parser.proofs.StmtTakes.{TakesStmts, is_closer, Closers, stmt_at, expr_then, expr_mark}
 
 -- Tokens that may begin an assignment.
 abbrev pub is_assign_first : TokenKind → Bool

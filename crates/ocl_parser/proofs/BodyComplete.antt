@@ -1,5 +1,5 @@
 -- Each text of a function's body is read.
-use Rattle.std.proofs.Common.{◌≡◌, ◌⊎◌, inl, inr, refl, sym, subst, ap, ◌∙◌, arith, Bool, true, false, cond, not, ℕ, nat_eq, length, List, [], ◌∷◌, Option, Some, None, true≢false}
+use Rattle.std.proofs.Common.{◌≡◌, inl, inr, refl, sym, subst, ap, ◌∙◌, arith, Bool, true, false, nat_eq, length, List, [], ◌∷◌, Option, Some, None, true≢false}
 use Rattle.std.proofs.lemmas.Bool.Decides.{nat_tests}
 use Rattle.vx_base.specs.declared.types.Elem.{Elem}
 use Rattle.vx_base.specs.declared.types.Pos.{Pos}
@@ -9,18 +9,15 @@ use Rattle.ocl_tokens.specs.declared.marks.Mark.TheVariants.{OpenParen, ClosePar
 use Rattle.ocl_tokens.specs.declared.tokens.Token.{Token}
 use Rattle.ocl_tokens.specs.declared.tokens.TokenKind.TheVariants.{Name as NameKind, Word as WordKind, Mark as MarkKind}
 use Rattle.ocl_tokens.specs.declared.words.Word.TheVariants.{If, Else, While, Do, For, Break, Continue, Return, Barrier}
-use Rattle.ocl_parser.specs.Spellings.{Rest, one, mark, word, name}
-use Rattle.ocl_parser.specs.Scalars.{scalar, scalar_elem, declared_type}
+use Rattle.ocl_parser.specs.Spellings.{Rest, one, mark, name}
 use Rattle.ocl_parser.specs.Exprs.{expr_text, option_text, IsGrouped, IsGroupedIfAny}
 use Rattle.ocl_parser.specs.Stmts.{IsLocalWord, more_assigns_text, assigns_text, more_names_text, first_text, stmt_text, items_text, names_text, takes_else, IsOrderly, AreOrderly}
-use Rattle.ocl_parser.specs.StmtSteps.{GoesOn, and_stmt, stmt_step, close_items, finished, finished_step, is_else, local_read}
-use Rattle.ocl_parser.specs.declared.scalars.Scalar.{Scalar}
+use Rattle.ocl_parser.specs.StmtSteps.{GoesOn, and_stmt, stmt_step, close_items, finished, finished_step, local_read}
 use Rattle.ocl_parser.specs.declared.states.ExprFocus.TheVariants.{Operand}
-use Rattle.ocl_parser.specs.declared.states.Part.{Part}
 use Rattle.ocl_parser.specs.declared.states.Part.TheVariants.{InBlock, InFirst, InStep}
 use Rattle.ocl_parser.specs.declared.states.Purpose.TheVariants.{CountOf, IfTest, WhileTest, DoTest, ForTest, ReturnOf}
 use Rattle.ocl_parser.specs.declared.states.StmtFocus.{StmtFocus}
-use Rattle.ocl_parser.specs.declared.states.StmtFocus.TheVariants.{ItemStart, BodyStart, Finished, Ending, Reading, IfWord, WhileWord, ForWord, DoWhile, BarrierWord, BarrierOpen, BarrierNumber, NameNext, LocalWord, LocalScalar, LocalNamed, AssignNext, AssignNamed, Assigned, CallOpen, FirstStart, TestStart, StepStart, Returning}
+use Rattle.ocl_parser.specs.declared.states.StmtFocus.TheVariants.{ItemStart, BodyStart, Finished, Ending, Reading, IfWord, WhileWord, ForWord, DoWhile, BarrierWord, BarrierOpen, NameNext, LocalWord, LocalScalar, LocalNamed, AssignNext, AssignNamed, Assigned, CallOpen, FirstStart, TestStart, StepStart, Returning}
 use Rattle.ocl_parser.specs.declared.states.StmtFrame.{StmtFrame}
 use Rattle.ocl_parser.specs.declared.states.StmtFrame.TheVariants.{Block as BlockFrame, Then as ThenFrame, Else as ElseFrame, While as WhileFrame, Do as DoFrame, For as ForFrame}
 use Rattle.ocl_parser.proofs.Texts.{Leads}

@@ -1,6 +1,6 @@
 -- What the reader has read of a function's body goes on to the end of a file: each open construct is closed in the shortest way, so that
 -- the file is within the limits where they leave room for that way.
-use Rattle.std.proofs.Common.{◌≡◌, refl, sym, ap, ◌∙◌, ◌≤◌, arith, Bool, true, false, cond, not, ℕ, nat_lt, nat_eq, length, List, [], ◌∷◌, ◌++◌, Option, Some, None}
+use Rattle.std.proofs.Common.{◌≡◌, refl, sym, ap, ◌∙◌, arith, Bool, true, false, cond, nat_eq, length, List, [], ◌∷◌, ◌++◌, Option, Some, None}
 use Rattle.std.proofs.lemmas.Bool.Decides.{nat_tests}
 use Rattle.vx_base.specs.declared.types.Elem.{Elem}
 use Rattle.vx_base.specs.declared.types.Pos.{Pos}
@@ -8,9 +8,8 @@ use Rattle.ocl_ast.specs.declared.exprs.Ident.{Ident}
 use Rattle.ocl_ast.specs.declared.stmts.AssignOp.{AssignOp}
 use Rattle.ocl_ast.specs.declared.stmts.AssignOp.TheVariants.{Up}
 use Rattle.ocl_ast.specs.declared.units.Param.{Param}
-use Rattle.ocl_ast.specs.Trees.{FunctionTree, ExprTree, NumberTree, NameTree, IndexTree, CallTree, ParenTree, NoArgs, TargetTree, NameTarget, IndexTarget, StmtTree, DeclareTree, LocalArrayTree, AssignTree, CallStmtTree, BarrierTree, IfTree, DoTree, ReturnTree, BlockTree, EmptyTree, StmtTrees, NoStmts}
-use Rattle.ocl_tokens.specs.declared.marks.Mark.{Mark}
-use Rattle.ocl_tokens.specs.declared.marks.Mark.TheVariants.{OpenParen, CloseParen, OpenBrace, CloseBrace, OpenBracket, CloseBracket, Semicolon, Colon, PlusPlus}
+use Rattle.ocl_ast.specs.Trees.{FunctionTree, ExprTree, NumberTree, NameTree, IndexTree, CallTree, ParenTree, NoArgs, TargetTree, NameTarget, IndexTarget, StmtTree, DeclareTree, LocalArrayTree, AssignTree, CallStmtTree, BarrierTree, DoTree, ReturnTree, BlockTree, EmptyTree, StmtTrees, NoStmts}
+use Rattle.ocl_tokens.specs.declared.marks.Mark.TheVariants.{OpenParen, CloseParen, CloseBrace, OpenBracket, CloseBracket, Semicolon, Colon, PlusPlus}
 use Rattle.ocl_tokens.specs.declared.tokens.Token.{Token}
 use Rattle.ocl_tokens.specs.declared.tokens.TokenKind.{TokenKind}
 use Rattle.ocl_tokens.specs.declared.tokens.TokenKind.TheVariants.{Name as NameKind, Word as WordKind, Number as NumberKind, Mark as MarkKind, End}
@@ -19,9 +18,9 @@ use Rattle.ocl_parser.specs.Scalars.{scalar_elem}
 use Rattle.ocl_ast.specs.Measures.{levels}
 use Rattle.ocl_parser.specs.Limits.{IsLowExpr, IsLow, IsWithin, AreWithin}
 use Rattle.ocl_parser.specs.Runs.{run, go_on}
-use Rattle.ocl_parser.specs.ExprSteps.{ExprNext, Goes, Ends as ExprEnds, and_arg, standing, ends, closed_by, settled, named_step, done_step, close_standing, expr_step}
-use Rattle.ocl_parser.specs.StmtSteps.{StmtNext, GoesOn, Closes, and_stmt, and_item, declared_end, declared_step, assign_end, counted_named, close_items, end_step, reading_step, placed, ends_with, completed, finished, is_else, finished_step, stmt_step}
-use Rattle.ocl_parser.specs.UnitSteps.{UnitNext, Reads, Adds, inside_step, unit_step}
+use Rattle.ocl_parser.specs.ExprSteps.{and_arg, standing, ends, closed_by, settled, close_standing, expr_step}
+use Rattle.ocl_parser.specs.StmtSteps.{StmtNext, GoesOn, Closes, and_stmt, declared_end, declared_step, assign_end, counted_named, close_items, end_step, reading_step, placed, ends_with, completed, finished, is_else, finished_step, stmt_step}
+use Rattle.ocl_parser.specs.UnitSteps.{Reads, inside_step, unit_step}
 use Rattle.ocl_parser.specs.declared.scalars.Scalar.{Scalar}
 use Rattle.ocl_parser.specs.declared.scalars.Scalar.TheVariants.{Ints}
 use Rattle.ocl_parser.specs.declared.scalars.Sign.TheVariants.{NoSign}
@@ -43,7 +42,7 @@ use Rattle.ocl_parser.specs.declared.states.UnitFocus.{UnitFocus}
 use Rattle.ocl_parser.specs.declared.states.UnitFocus.TheVariants.{Outside, Inside}
 use Rattle.ocl_parser.proofs.ExprLimits.{closed_fits, test_closes, index_closes, args_close, paren_closes, paren_opens, cast_opens}
 use Rattle.ocl_parser.proofs.FitLaws.{items_fit, block_fits, first_fits, plain_fits, value_fits, for_body, for_begins, head_begins, args_low, completed_fits, body_fits, inner_fits, functions_within}
-use Rattle.ocl_parser.proofs.Fits.{ExprFits, StandingFits, SimpleFits, WholeFits, PartFits, AssignedFits, PurposeFits, StmtFits, UnitFits, Both}
+use Rattle.ocl_parser.proofs.Fits.{WholeFits, PartFits, AssignedFits, PurposeFits, StmtFits, UnitFits}
 
 -- tokens that are made, and what they name
 abbrev pub somewhere : Pos

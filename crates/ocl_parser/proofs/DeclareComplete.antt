@@ -1,5 +1,5 @@
 -- Each text of a declaration's type and of its names is read.
-use Rattle.std.proofs.Common.{◌≡◌, ◌⊎◌, inl, inr, refl, sym, subst, ap, ◌∙◌, Bool, true, false, List, [], ◌∷◌, Option, Some, None, true≢false}
+use Rattle.std.proofs.Common.{◌≡◌, inl, inr, refl, sym, subst, ap, ◌∙◌, Bool, true, false, List, [], ◌∷◌, Option, Some, None, true≢false}
 use Rattle.vx_base.specs.declared.types.Elem.{Elem}
 use Rattle.vx_base.specs.declared.types.Pos.{Pos}
 use Rattle.ocl_ast.specs.declared.exprs.Ident.{Ident}
@@ -11,12 +11,12 @@ use Rattle.ocl_tokens.specs.declared.tokens.TokenKind.{TokenKind}
 use Rattle.ocl_tokens.specs.declared.tokens.TokenKind.TheVariants.{Name as NameKind, Word as WordKind, Mark as MarkKind}
 use Rattle.ocl_tokens.specs.declared.words.Word.{Word}
 use Rattle.ocl_tokens.specs.declared.words.Word.TheVariants.{Const, Volatile, Char, Uchar, Short, Ushort, Int, Uint, SizeT, Signed, Unsigned}
-use Rattle.ocl_parser.specs.Spellings.{Rest, given, one, mark, word, words, name}
+use Rattle.ocl_parser.specs.Spellings.{Rest, given, word, words}
 use Rattle.ocl_parser.specs.Scalars.{scalar, scalar_words, scalar_elem, qualifiers, declared_type}
 use Rattle.ocl_parser.specs.ScalarSteps.{scalar_first, scalar_more}
 use Rattle.ocl_parser.specs.Exprs.{IsGroupedIfAny}
 use Rattle.ocl_parser.specs.Stmts.{declarator_text}
-use Rattle.ocl_parser.specs.StmtSteps.{StmtNext, GoesOn, stmt_step, scalar_read, qualified_word, qualified_step, scalar_word, scalar_step, typed_step, declared_end, declared_step}
+use Rattle.ocl_parser.specs.StmtSteps.{GoesOn, stmt_step, scalar_read, qualified_word, qualified_step, scalar_word, declared_end, declared_step}
 use Rattle.ocl_parser.specs.declared.scalars.Scalar.{Scalar}
 use Rattle.ocl_parser.specs.declared.scalars.Scalar.TheVariants.{OnlySigned, OnlyUnsigned, Chars, Shorts, ShortInts, Ints, UcharWord, UshortWord, UintWord, SizeWord}
 use Rattle.ocl_parser.specs.declared.scalars.Sign.TheVariants.{NoSign, SignedSign, UnsignedSign}
@@ -28,7 +28,7 @@ use Rattle.ocl_parser.specs.declared.states.StmtFocus.TheVariants.{Reading, Qual
 use Rattle.ocl_parser.specs.declared.states.StmtFrame.{StmtFrame}
 use Rattle.ocl_parser.proofs.Texts.{Leads}
 use Rattle.ocl_parser.proofs.ScalarComplete.{ReadsWords, scalar_complete}
-use Rattle.ocl_parser.proofs.StmtTakes.{TakesStmts, is_closer, stmt_at, stmt_one, EndsWith, Ending_in, expr_ends}
+use Rattle.ocl_parser.proofs.StmtTakes.{TakesStmts, is_closer, stmt_at, stmt_one, Ending_in, expr_ends}
 
 -- Words that may begin a declaration's type.
 abbrev pub is_scalar_first : Word → Bool

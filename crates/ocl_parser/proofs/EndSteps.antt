@@ -1,12 +1,11 @@
 -- The token at the end of a file ends it, or no file goes on with it.
-use Rattle.std.proofs.Common.{◌≡◌, refl, sym, subst, Bool, false, List, [], ◌∷◌}
+use Rattle.std.proofs.Common.{◌≡◌, refl, sym, subst, false, List, [], ◌∷◌}
 use Rattle.vx_base.specs.declared.types.Pos.{Pos}
-use Rattle.ocl_ast.specs.Trees.{ExprTree, NameTree, StmtTree, FunctionTree}
+use Rattle.ocl_ast.specs.Trees.{ExprTree, NameTree, StmtTree}
 use Rattle.ocl_tokens.specs.declared.tokens.Token.{Token}
-use Rattle.ocl_tokens.specs.declared.tokens.TokenKind.{TokenKind}
 use Rattle.ocl_tokens.specs.declared.tokens.TokenKind.TheVariants.{End}
 use Rattle.ocl_parser.specs.ExprSteps.{ExprNext, Goes, Ends, Refuses, Standing, settled, close_step, close_standing, expr_step}
-use Rattle.ocl_parser.specs.StmtSteps.{StmtNext, GoesOn, Closes, Stops, Placed, finished, placed_step, finished_step, end_step, reading_step, stmt_step}
+use Rattle.ocl_parser.specs.StmtSteps.{Stops, Placed, finished, placed_step, finished_step, end_step, reading_step, stmt_step}
 use Rattle.ocl_parser.specs.UnitSteps.{UnitNext, Reads, Adds, Fails, inside_step, unit_step}
 use Rattle.ocl_parser.specs.declared.states.ExprFocus.{ExprFocus}
 use Rattle.ocl_parser.specs.declared.states.ExprFocus.TheVariants.{Operand, Named, Opened, Casting, Calling, Done}

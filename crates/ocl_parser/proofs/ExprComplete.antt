@@ -1,5 +1,5 @@
 -- Each text of an expression is read, and leaves what the expression itself would leave.
-use Rattle.std.proofs.Common.{◌≡◌, ◌≤◌, ◌<◌, ◌+◌, refl, sym, subst, ap, ◌∙◌, arith, Bool, true, false, cond, ℕ, nat_lt, nat_eq, not, List, [], ◌∷◌, Option, Some, None, true≢false}
+use Rattle.std.proofs.Common.{◌≡◌, ◌≤◌, ◌<◌, refl, sym, subst, ap, ◌∙◌, arith, Bool, true, false, cond, ℕ, nat_lt, nat_eq, not, List, [], ◌∷◌, true≢false}
 use Rattle.std.proofs.lemmas.Bool.Decides.{nat_tests}
 use Rattle.vx_base.specs.declared.types.Pos.{Pos}
 use Rattle.ocl_ast.specs.declared.exprs.BinOp.TheVariants.{Mul, Div, Rem, Add, Sub, Shl, Shr, Lt, Gt, Le, Ge, Eq, Ne, And, Xor, Or}
@@ -11,15 +11,12 @@ use Rattle.ocl_tokens.specs.declared.marks.Mark.{Mark}
 use Rattle.ocl_tokens.specs.declared.marks.Mark.TheVariants.{OpenParen, CloseParen, OpenBracket, CloseBracket, Comma, Question, Colon, Tilde, Bang, Plus, Minus}
 use Rattle.ocl_tokens.specs.declared.tokens.Token.{Token}
 use Rattle.ocl_tokens.specs.declared.tokens.TokenKind.{TokenKind}
-use Rattle.ocl_tokens.specs.declared.tokens.TokenKind.TheVariants.{Name as NameKind, Word as WordKind, Number as NumberKind, Mark as MarkKind, End}
-use Rattle.ocl_parser.specs.Spellings.{Rest, one, mark, mark_at, word, words, name, unary_mark}
-use Rattle.ocl_parser.specs.Scalars.{scalar_words, scalar_elem}
-use Rattle.ocl_parser.specs.ScalarSteps.{scalar_first, scalar_more}
-use Rattle.ocl_parser.specs.Exprs.{expr_text, args_text, more_args_text, rank, level_of, IsGrouped, AreGrouped}
-use Rattle.ocl_parser.specs.ExprSteps.{ExprNext, Goes, Ends, Refuses, Standing, standing, infix_level, infix_tree, ends, closed_by, settled, and_arg, operand_step, operand_mark, named_step, opened_step, opened_word, calling_step, done_step, done_mark, infix_step, question_step, close_standing, close_step, expr_step}
+use Rattle.ocl_tokens.specs.declared.tokens.TokenKind.TheVariants.{Name as NameKind, Word as WordKind, Number as NumberKind, Mark as MarkKind}
+use Rattle.ocl_parser.specs.Spellings.{Rest, one, mark, mark_at, unary_mark}
+use Rattle.ocl_parser.specs.Exprs.{expr_text, args_text, more_args_text, rank, IsGrouped, AreGrouped}
+use Rattle.ocl_parser.specs.ExprSteps.{Goes, standing, infix_level, infix_tree, ends, closed_by, settled, and_arg, operand_step, operand_mark, named_step, opened_step, opened_word, calling_step, done_step, infix_step, question_step, close_standing, close_step, expr_step}
 use Rattle.ocl_parser.specs.declared.operators.Infix.{Infix}
 use Rattle.ocl_parser.specs.declared.operators.Infix.TheVariants.{Both, Either, Op}
-use Rattle.ocl_parser.specs.declared.scalars.Scalar.{Scalar}
 use Rattle.ocl_parser.specs.declared.states.ExprFocus.{ExprFocus}
 use Rattle.ocl_parser.specs.declared.states.ExprFocus.TheVariants.{Operand, Named, Opened, Casting, Calling, Done}
 use Rattle.ocl_parser.specs.declared.states.ExprFrame.{ExprFrame}

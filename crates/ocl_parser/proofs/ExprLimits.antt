@@ -1,5 +1,5 @@
 -- The limit of an expression, over each token.
-use Rattle.std.proofs.Common.{◌≡◌, ◌≤◌, ◌+◌, refl, sym, subst, arith, Bool, true, false, cond, max, ℕ, length, List, [], ◌∷◌, Option, Some, None, true≢false}
+use Rattle.std.proofs.Common.{◌≡◌, ◌≤◌, ◌+◌, refl, sym, arith, Bool, true, false, cond, max, ℕ, length, List, [], ◌∷◌, Option, Some, None, true≢false}
 use Rattle.vx_base.specs.declared.types.Pos.{Pos}
 use Rattle.ocl_ast.specs.declared.exprs.Ident.{Ident}
 use Rattle.ocl_ast.specs.declared.exprs.UnOp.{UnOp}
@@ -9,11 +9,10 @@ use Rattle.ocl_tokens.specs.declared.marks.Mark.{Mark}
 use Rattle.ocl_tokens.specs.declared.marks.Mark.TheVariants.{OpenParen, CloseParen, OpenBracket, CloseBracket, Comma, Question, Colon}
 use Rattle.ocl_tokens.specs.declared.tokens.TokenKind.{TokenKind}
 use Rattle.ocl_tokens.specs.declared.tokens.TokenKind.TheVariants.{Name as NameKind, Word as WordKind, Number as NumberKind, Mark as MarkKind, End}
-use Rattle.ocl_parser.specs.Limits.{IsLowExpr, AreLowArgs}
 use Rattle.ocl_parser.specs.Rooms.{left_height, last_height, HasHeight}
 use Rattle.ocl_parser.specs.Scalars.{scalar_elem}
 use Rattle.ocl_parser.specs.ScalarSteps.{scalar_first, scalar_more}
-use Rattle.ocl_parser.specs.ExprSteps.{ExprNext, Goes, Ends, Refuses, infix_of, unary_of, infix_level, infix_tree, and_arg, Standing, ends, closed_by, settled, standing, operand_step, operand_mark, named_step, opened_step, opened_word, casting_step, calling_step, done_step, done_mark, infix_step, question_step, close_standing, close_step, close_test, close_index, close_args, close_paren, expr_step}
+use Rattle.ocl_parser.specs.ExprSteps.{ExprNext, Goes, Refuses, infix_of, unary_of, infix_level, infix_tree, and_arg, Standing, ends, closed_by, settled, standing, operand_step, operand_mark, named_step, opened_step, opened_word, casting_step, calling_step, done_step, done_mark, infix_step, question_step, close_standing, close_step, close_test, close_index, close_args, close_paren, expr_step}
 use Rattle.ocl_parser.specs.declared.operators.Infix.{Infix}
 use Rattle.ocl_parser.specs.declared.operators.Infix.TheVariants.{Both as BothOp, Either, Op}
 use Rattle.ocl_parser.specs.declared.scalars.Scalar.{Scalar}
@@ -21,7 +20,7 @@ use Rattle.ocl_parser.specs.declared.states.ExprFocus.{ExprFocus}
 use Rattle.ocl_parser.specs.declared.states.ExprFocus.TheVariants.{Operand, Named, Opened, Casting, Calling, Done}
 use Rattle.ocl_parser.specs.declared.states.ExprFrame.{ExprFrame}
 use Rattle.ocl_parser.specs.declared.states.ExprFrame.TheVariants.{Unary as UnaryFrame, Cast as CastFrame, Between as InfixFrame, Test as TestFrame, Other as OtherFrame, Index as IndexFrame, Call as ArgsFrame, Paren as ParenFrame}
-use Rattle.ocl_parser.proofs.Fits.{LeftsFit, ExprFits, StandingFits, ExprNextFits, ExprRoom, ExprKeeps, Both, same, refused, alike, through}
+use Rattle.ocl_parser.proofs.Fits.{LeftsFit, ExprFits, StandingFits, ExprRoom, ExprKeeps, Both, same, refused, alike, through}
 
 pub args_more : (args : ArgTrees) (e : ExprTree) → args_height (and_arg args e) ≡ max (args_height args) (height e)
 args_more NoArgs e = omega arith

@@ -1,19 +1,16 @@
 -- The reader groups expressions by the levels of their operators.
-use Rattle.std.proofs.Common.{◌≡◌, ◌≤◌, ◌<◌, refl, sym, subst, ap, ◌∙◌, arith, Bool, true, false, cond, ℕ, suc, nat_lt, nat_eq, not, List, [], ◌∷◌, Option, Some, None, true≢false}
+use Rattle.std.proofs.Common.{◌≡◌, ◌≤◌, ◌<◌, refl, sym, subst, arith, Bool, true, false, cond, ℕ, suc, List, [], ◌∷◌, Option, Some, None, true≢false}
 use Rattle.std.proofs.lemmas.Bool.Decides.{nat_tests}
 use Rattle.vx_base.specs.declared.types.Pos.{Pos}
-use Rattle.ocl_ast.specs.declared.exprs.BinOp.{BinOp}
 use Rattle.ocl_ast.specs.declared.exprs.Ident.{Ident}
 use Rattle.ocl_ast.specs.declared.exprs.UnOp.{UnOp}
-use Rattle.ocl_ast.specs.Trees.{ExprTree, NumberTree, NameTree, CallTree, ArgTrees, NoArgs, AndArg}
+use Rattle.ocl_ast.specs.Trees.{ExprTree, NameTree, ArgTrees, NoArgs, AndArg}
 use Rattle.ocl_tokens.specs.declared.marks.Mark.{Mark}
 use Rattle.ocl_tokens.specs.declared.marks.Mark.TheVariants.{OpenParen, CloseParen, OpenBracket, CloseBracket, Comma, Question, Colon}
 use Rattle.ocl_tokens.specs.declared.tokens.TokenKind.{TokenKind}
 use Rattle.ocl_tokens.specs.declared.tokens.TokenKind.TheVariants.{Name as NameKind, Word as WordKind, Number as NumberKind, Mark as MarkKind, End}
-use Rattle.ocl_tokens.specs.declared.words.Word.{Word}
-use Rattle.ocl_parser.specs.Scalars.{scalar_elem}
 use Rattle.ocl_parser.specs.ScalarSteps.{scalar_first, scalar_more}
-use Rattle.ocl_parser.specs.Exprs.{rank, level_of, IsGrouped, AreGrouped}
+use Rattle.ocl_parser.specs.Exprs.{rank, IsGrouped, AreGrouped}
 use Rattle.ocl_parser.specs.ExprSteps.{ExprNext, Goes, Ends, Refuses, infix_of, unary_of, infix_level, infix_tree, and_arg, Standing, ends, closed_by, settled, standing, operand_step, operand_mark, named_step, opened_step, opened_word, casting_step, calling_step, done_step, done_mark, infix_step, question_step, close_standing, close_step, close_test, close_index, close_args, close_paren, expr_step}
 use Rattle.ocl_parser.specs.declared.operators.Infix.{Infix}
 use Rattle.ocl_parser.specs.declared.operators.Infix.TheVariants.{Both, Either, Op}

@@ -1,10 +1,9 @@
 -- What the reader reads of an expression is a text of what it has made.
-use Rattle.std.proofs.Common.{◌≡◌, refl, sym, subst, ap, ◌∙◌, Bool, true, false, cond, ℕ, nat_lt, nat_eq, not, List, [], ◌∷◌, ◌++◌, Option, Some, None, true≢false}
+use Rattle.std.proofs.Common.{◌≡◌, refl, sym, subst, Bool, true, false, cond, ℕ, List, [], ◌∷◌, ◌++◌, Option, Some, None, true≢false}
 use Rattle.vx_base.specs.declared.types.Pos.{Pos}
 use Rattle.ocl_ast.specs.declared.exprs.BinOp.TheVariants.{Mul, Div, Rem, Add, Sub, Shl, Shr, Lt, Gt, Le, Ge, Eq, Ne, And, Xor, Or}
 use Rattle.ocl_ast.specs.declared.exprs.Ident.{Ident}
-use Rattle.ocl_ast.specs.declared.exprs.UnOp.TheVariants.{Plus as UnaryPlus, Minus as UnaryMinus, Not, Flip}
-use Rattle.ocl_ast.specs.Trees.{ExprTree, NameTree, CallTree, ArgTrees, NoArgs}
+use Rattle.ocl_ast.specs.Trees.{ExprTree, NameTree, ArgTrees, NoArgs}
 use Rattle.ocl_tokens.specs.declared.marks.Mark.{Mark}
 use Rattle.ocl_tokens.specs.declared.marks.Mark.TheVariants.{OpenParen, CloseParen, OpenBracket, CloseBracket, Comma, Question, Colon, Tilde, Bang, Plus, Minus, Star, Slash, Percent, ShiftLeft, ShiftRight, Less, Greater, LessEqual, GreaterEqual, EqualEqual, BangEqual, Ampersand, Caret, Bar, AndAnd, BarBar}
 use Rattle.ocl_tokens.specs.declared.tokens.Token.{Token}
@@ -12,15 +11,15 @@ use Rattle.ocl_tokens.specs.declared.tokens.TokenKind.{TokenKind}
 use Rattle.ocl_tokens.specs.declared.tokens.TokenKind.TheVariants.{Name as NameKind, Word as WordKind, Number as NumberKind, Mark as MarkKind, End}
 use Rattle.ocl_tokens.specs.declared.words.Word.{Word}
 use Rattle.ocl_tokens.specs.declared.words.Word.TheVariants.{Char, Uchar, Short, Ushort, Int, Uint, SizeT, Signed, Unsigned}
-use Rattle.ocl_parser.specs.Spellings.{Rest, one, mark, mark_at, word, words, name}
-use Rattle.ocl_parser.specs.Scalars.{scalar, scalar_words, scalar_elem, sign_words}
+use Rattle.ocl_parser.specs.Spellings.{Rest, mark, mark_at, word, words, name}
+use Rattle.ocl_parser.specs.Scalars.{scalar_words, sign_words}
 use Rattle.ocl_parser.specs.ScalarSteps.{scalar_first, scalar_more, signed_more, short_more}
 use Rattle.ocl_parser.specs.Exprs.{expr_text}
-use Rattle.ocl_parser.specs.ExprSteps.{ExprNext, Goes, Ends, Refuses, infix_level, ends, closed_by, settled, standing, operand_step, operand_mark, named_step, opened_step, opened_word, casting_step, calling_step, done_step, done_mark, infix_step, close_standing, close_step, close_test, close_index, close_args, close_paren, expr_step}
+use Rattle.ocl_parser.specs.ExprSteps.{infix_level, ends, closed_by, settled, standing, operand_step, operand_mark, named_step, opened_step, opened_word, casting_step, calling_step, done_step, done_mark, infix_step, close_standing, close_step, close_test, close_index, close_args, close_paren, expr_step}
 use Rattle.ocl_parser.specs.declared.operators.Infix.{Infix}
 use Rattle.ocl_parser.specs.declared.operators.Infix.TheVariants.{Both, Either, Op}
 use Rattle.ocl_parser.specs.declared.scalars.Scalar.{Scalar}
-use Rattle.ocl_parser.specs.declared.scalars.Scalar.TheVariants.{OnlySigned, OnlyUnsigned, Chars, Shorts, ShortInts, Ints, UcharWord, UshortWord, UintWord, SizeWord}
+use Rattle.ocl_parser.specs.declared.scalars.Scalar.TheVariants.{OnlySigned, OnlyUnsigned, Shorts}
 use Rattle.ocl_parser.specs.declared.scalars.Sign.{Sign}
 use Rattle.ocl_parser.specs.declared.scalars.Sign.TheVariants.{NoSign, SignedSign, UnsignedSign}
 use Rattle.ocl_parser.specs.declared.states.ExprFocus.{ExprFocus}
@@ -28,7 +27,7 @@ use Rattle.ocl_parser.specs.declared.states.ExprFocus.TheVariants.{Operand, Name
 use Rattle.ocl_parser.specs.declared.states.ExprFrame.{ExprFrame}
 use Rattle.ocl_parser.specs.declared.states.ExprFrame.TheVariants.{Unary as UnaryFrame, Cast as CastFrame, Between as InfixFrame, Test as TestFrame, Other as OtherFrame, Index as IndexFrame, Call as ArgsFrame, Paren as ParenFrame}
 use Rattle.ocl_parser.proofs.Texts.{Leads, same, then, any, one_mono, after, taken, expr_mono, words_mono}
-use Rattle.ocl_parser.proofs.ExprTexts.{infix_mark, frame_text, frames_text, focus_text, read_text, next_text, frame_mono, frames_mono, infix_whole, args_last, args_comma}
+use Rattle.ocl_parser.proofs.ExprTexts.{infix_mark, frame_text, frames_text, read_text, next_text, frames_mono, infix_whole, args_last, args_comma}
 
 -- the words of a scalar type with one more
 words_last : (ws : List Word) (w : Word) (rest : Rest) → Leads (words ws (word w rest)) (words (ws ++ (w ∷ [])) rest)

@@ -1,10 +1,10 @@
 -- What the reader has read of an expression, as texts.
-use Rattle.std.proofs.Common.{◌≡◌, refl, sym, subst, ap, Bool, true, false, List, [], ◌∷◌}
+use Rattle.std.proofs.Common.{List, [], ◌∷◌}
 use Rattle.ocl_ast.specs.Trees.{ExprTree, ArgTrees, NoArgs, AndArg}
 use Rattle.ocl_tokens.specs.declared.marks.Mark.{Mark}
-use Rattle.ocl_tokens.specs.declared.marks.Mark.TheVariants.{OpenParen, CloseParen, OpenBracket, CloseBracket, Comma, Question, Colon, AndAnd, BarBar}
+use Rattle.ocl_tokens.specs.declared.marks.Mark.TheVariants.{OpenParen, CloseParen, OpenBracket, Comma, Question, Colon, AndAnd, BarBar}
 use Rattle.ocl_tokens.specs.declared.tokens.Token.{Token}
-use Rattle.ocl_parser.specs.Spellings.{Rest, one, mark, mark_at, word, words, name, unary_mark, binary_mark}
+use Rattle.ocl_parser.specs.Spellings.{Rest, mark, mark_at, words, name, unary_mark, binary_mark}
 use Rattle.ocl_parser.specs.Scalars.{scalar, scalar_words}
 use Rattle.ocl_parser.specs.Exprs.{expr_text, args_text, more_args_text}
 use Rattle.ocl_parser.specs.ExprSteps.{ExprNext, Goes, Ends, Refuses, infix_tree, and_arg}
@@ -14,7 +14,7 @@ use Rattle.ocl_parser.specs.declared.states.ExprFocus.{ExprFocus}
 use Rattle.ocl_parser.specs.declared.states.ExprFocus.TheVariants.{Operand, Named, Opened, Casting, Calling, Done}
 use Rattle.ocl_parser.specs.declared.states.ExprFrame.{ExprFrame}
 use Rattle.ocl_parser.specs.declared.states.ExprFrame.TheVariants.{Unary as UnaryFrame, Cast as CastFrame, Between as InfixFrame, Test as TestFrame, Other as OtherFrame, Index as IndexFrame, Call as ArgsFrame, Paren as ParenFrame}
-use Rattle.ocl_parser.proofs.Texts.{Leads, same, then, one_mono, scalar_mono, words_mono, expr_mono, args_mono, more_args_mono, after}
+use Rattle.ocl_parser.proofs.Texts.{Leads, same, one_mono, scalar_mono, expr_mono, after}
 
 abbrev pub infix_mark : Infix → Mark
 infix_mark (Op op) = binary_mark op

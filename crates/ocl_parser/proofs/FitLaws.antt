@@ -1,5 +1,5 @@
 -- What the limits of statements say of each other.
-use Rattle.std.proofs.Common.{◌≡◌, ◌≤◌, ◌+◌, refl, sym, arith, Bool, true, false, max, ℕ, List, [], ◌∷◌, ◌++◌, Option, Some, None, true≢false}
+use Rattle.std.proofs.Common.{◌≡◌, ◌≤◌, ◌+◌, refl, sym, arith, Bool, true, max, ℕ, List, [], ◌∷◌, ◌++◌, Option, Some, None, true≢false}
 use Rattle.vx_base.specs.declared.types.Pos.{Pos}
 use Rattle.ocl_ast.specs.declared.stmts.AssignOp.{AssignOp}
 use Rattle.ocl_ast.specs.Measures.{height, args_height, levels, all_levels}

@@ -1,21 +1,20 @@
 -- Items, names and assignments with one more at the end, as texts.
-use Rattle.std.proofs.Common.{◌≡◌, ◌⊎◌, refl, sym, subst, ap, ◌∙◌, inl, inr, Bool, true, false, List, [], ◌∷◌, Option, Some, None}
+use Rattle.std.proofs.Common.{◌≡◌, refl, sym, subst, ap, ◌∙◌, inl, inr, Bool, true, false, List, [], ◌∷◌, Option}
 use Rattle.vx_base.specs.declared.types.Elem.{Elem}
 use Rattle.vx_base.specs.declared.types.Pos.{Pos}
 use Rattle.ocl_ast.specs.declared.exprs.Ident.{Ident}
 use Rattle.ocl_ast.specs.declared.stmts.AssignOp.{AssignOp}
-use Rattle.ocl_ast.specs.Trees.{ExprTree, TargetTree, StmtTree, DeclareTree, LocalArrayTree, AssignTree, CallStmtTree, BarrierTree, IfTree, IfElseTree, WhileTree, DoTree, ForTree, BreakTree, ContinueTree, ReturnTree, BlockTree, EmptyTree, StmtTrees, NoStmts, AndStmt}
+use Rattle.ocl_ast.specs.Trees.{ExprTree, TargetTree, StmtTree, DeclareTree, LocalArrayTree, AssignTree, StmtTrees, NoStmts, AndStmt}
 use Rattle.ocl_tokens.specs.declared.marks.Mark.TheVariants.{Semicolon, Comma, Bar}
 use Rattle.ocl_tokens.specs.declared.tokens.Token.{Token}
-use Rattle.ocl_tokens.specs.declared.tokens.TokenKind.TheVariants.{Word as WordKind}
 use Rattle.ocl_tokens.specs.declared.words.Word.TheVariants.{Const, Volatile}
-use Rattle.ocl_parser.specs.Spellings.{Rest, no_text, either, given, one, mark, word, words, IsNumber}
-use Rattle.ocl_parser.specs.Scalars.{scalar, scalar_words, scalar_elem, qualifiers, declared_type}
+use Rattle.ocl_parser.specs.Spellings.{Rest, no_text, either, given, one, mark, word, IsNumber}
+use Rattle.ocl_parser.specs.Scalars.{scalar_words, scalar_elem, qualifiers, declared_type}
 use Rattle.ocl_parser.specs.Stmts.{assign_text, declarator_text, more_numbers_text, more_assigns_text, assigns_text, more_names_text, first_text, stmt_text, items_text, names_text}
 use Rattle.ocl_parser.specs.StmtSteps.{and_stmt}
 use Rattle.ocl_parser.specs.declared.scalars.Scalar.{Scalar}
 use Rattle.ocl_parser.proofs.Texts.{Leads, same, then, one_mono, words_mono, scalar_mono, expr_mono}
-use Rattle.ocl_parser.proofs.StmtTexts.{qualifiers_mono, type_mono, given_mono, assign_mono, declarator_mono, more_assigns_mono, assigns_mono, more_names_mono, stmt_mono, items_mono}
+use Rattle.ocl_parser.proofs.StmtTexts.{qualifiers_mono, type_mono, given_mono, assign_mono, declarator_mono, stmt_mono, items_mono}
 use Rattle.ocl_parser.proofs.StmtFronts.{joined, items_open, first_open, type_words, after_assigns, local_text}
 
 pub nothing : {a : Rest} → Leads no_text a

@@ -1,5 +1,5 @@
 -- What a token leaves to the tokens behind it, and what is known of the whole.
-use Rattle.std.proofs.Common.{◌≡◌, ◌<◌, ◌≤◌, ◌+◌, refl, sym, ap, subst, ◌∙◌, arith, Bool, true, false, ℕ, suc, List, [], ◌∷◌, ◌++◌, map, reverse, length, get_or, take, drop, append_assoc, Option, Some, None}
+use Rattle.std.proofs.Common.{◌≡◌, ◌⊎◌, inl, inr, ◌<◌, ◌≤◌, ◌+◌, refl, sym, ap, subst, ◌∙◌, arith, ℕ, suc, List, [], ◌∷◌, ◌++◌, map, reverse, length, get_or, take, drop, append_assoc, Some, None}
 use Rattle.std.proofs.Math.Seq.{take-suc, take-length, drop-cons}
 use Rattle.std.proofs.lemmas.List.{append-nil, map-append, take-append-drop}
 use Rattle.ocl_ast.specs.Shapes.{function_tree}
@@ -7,7 +7,7 @@ use Rattle.ocl_ast.specs.Trees.{FunctionTree}
 use Rattle.ocl_ast.specs.declared.units.Function.{Function}
 use Rattle.ocl_tokens.specs.declared.tokens.Token.{Token}
 use Rattle.ocl_tokens.specs.declared.tokens.TokenKind.TheVariants.{End}
-use Rattle.ocl_parser.specs.Faults.{AreEnded, is_left_out, BeginNoFile, BeginSomeFile, BeginNoneWithin, BeginSomeWithin, IsFaultOf, IsRefused, IsRefusalOf, IsStep, IsCrowded, IsStop}
+use Rattle.ocl_parser.specs.Faults.{AreEnded, BeginNoFile, BeginSomeFile, BeginNoneWithin, BeginSomeWithin, IsFaultOf, IsRefused, IsRefusalOf, IsStep, IsCrowded, IsStop}
 use Rattle.ocl_parser.specs.Limits.{AreWithin}
 use Rattle.ocl_parser.specs.Rooms.{HasRoom}
 use Rattle.ocl_parser.specs.Runs.{ended, go_on, run}
@@ -27,6 +27,7 @@ use Rattle.ocl_parser.proofs.FitLaws.{functions_within}
 use Rattle.ocl_parser.proofs.Fits.{UnitFits, UnitNextFits, UnitRoom}
 use Rattle.ocl_parser.proofs.UnitClosing.{CanBe, CanBeNext, unit_follows, unit_ends}
 use Rattle.ocl_parser.proofs.UnitLimits.{RunFits, fits_room, unit_keeps, run_back}
+use Rattle.ocl_parser.proofs.RefusalLaws.{refused_none}
 
 -- what a token does, told by what the code does with it
 pub step_reads : (n : UnitNext) (next : UnitFocus) (fs : List FunctionTree) → Reads next ≡ n → IsStep n next fs fs
@@ -37,15 +38,15 @@ step_adds n fs f e =
     subst (λ m. IsStep m Outside (map function_tree fs) (map function_tree (fs ++ (f ∷ [])))) e (refl, map-append function_tree fs (f ∷ []))
 
 -- a token with which no file goes on
-pub stops_on : (t : Token) (n : UnitNext) (fault : ParseFault) → IsRefusalOf fault t → Fails ≡ n → IsStop fault t n
-stops_on t n (Unexpected pos) r e = (r.0, r.1, sym e)
-stops_on t n (Subset pos) r e = (r.0, r.1, sym e)
+pub stops_on : (t : Token) (n : UnitNext) (fault : ParseFault) → IsRefusalOf fault t → Fails ≡ n → (fault ≡ Memory) ⊎ IsStop fault t n
+stops_on t n (Unexpected pos) r e = inr (r.0, r.1, sym e)
+stops_on t n (Subset pos) r e = inr (r.0, r.1, sym e)
 stops_on t n (TooDeep pos) r e = absurd r
 stops_on t n Memory r e = absurd r
 
 -- a token with which only files beyond the limits go on
-pub too_deep : (t : Token) (n : UnitNext) (next : UnitFocus) → (HasRoom next → ⊥) → Reads next ≡ n → IsStop (TooDeep t.pos) t n
-too_deep t n next full e = subst (λ m. IsStop (TooDeep t.pos) t m) e (refl, full)
+pub too_deep : (t : Token) (n : UnitNext) (next : UnitFocus) → (HasRoom next → ⊥) → Reads next ≡ n → (TooDeep t.pos ≡ Memory) ⊎ IsStop (TooDeep t.pos) t n
+too_deep t n next full e = inr (subst (λ m. IsStop (TooDeep t.pos) t m) e (refl, full))
 
 -- The reader stands at this focus and behind these functions once it has read the tokens.
 abbrev pub HasRead : List Token → UnitFocus → List FunctionTree → Type 0
@@ -168,9 +169,9 @@ why_refused (Unexpected pos) front t focus fs reads c s = (s.0, s.1, begin_none 
 why_refused (Subset pos) front t focus fs reads c s = (s.0, s.1, begin_none front t focus fs reads s.2)
 why_refused (TooDeep pos) front t focus fs reads c s =
     (s.0, begin_with front t fs (unit_step t.kind t.pos focus) s.1 (unit_follows t.kind t.pos focus c) (λ ts. reads (t ∷ ts)), begin_beyond front t focus fs reads c s.1)
-why_refused Memory front t focus fs reads c s = tt
+why_refused Memory front t focus fs reads c s = absurd s
 
-pub refused_at : (tokens : List Token) (i : ℕ) (t : Token) (focus : UnitFocus) (fs : List FunctionTree) (fault : ParseFault) → i < length tokens → t ≡ get_or tokens i t →
+refused_at : (tokens : List Token) (i : ℕ) (t : Token) (focus : UnitFocus) (fs : List FunctionTree) (fault : ParseFault) → i < length tokens → t ≡ get_or tokens i t →
     HasRead (take i tokens) focus fs → CanBe focus → RunFits focus fs → IsStop fault t (unit_step t.kind t.pos focus) → IsRefused fault tokens
 refused_at tokens i t focus fs fault h is reads c f stop = record {
   before = take i tokens;
@@ -181,23 +182,25 @@ refused_at tokens i t focus fs fault h is reads c f stop = record {
   why = why_refused fault (take i tokens) t focus fs reads c stop;
 }
 
--- a refusal of tokens that some file within the limits has
-never_faulty : (fault : ParseFault) (front behind : List Token) (t : Token) (gs : List FunctionTree) → IsFaultOf fault front t → Derives ((front ++ (t ∷ [])) ++ behind) gs →
-    AreWithin gs → fault ≡ Memory
-never_faulty (Unexpected pos) front behind t gs s d w = absurd (s.2 behind gs d)
-never_faulty (Subset pos) front behind t gs s d w = absurd (s.2 behind gs d)
-never_faulty (TooDeep pos) front behind t gs s d w = absurd (s.2 behind gs d w)
-never_faulty Memory front behind t gs s d w = refl
+-- The reader stops for want of memory, or since the tokens are refused.
+pub stops_refused : (tokens : List Token) (i : ℕ) (t : Token) (focus : UnitFocus) (fs : List FunctionTree) (fault : ParseFault) → i < length tokens → t ≡ get_or tokens i t →
+    HasRead (take i tokens) focus fs → CanBe focus → RunFits focus fs → (fault ≡ Memory) ⊎ IsStop fault t (unit_step t.kind t.pos focus) →
+    (fault ≡ Memory) ⊎ (AreEnded tokens → IsRefused fault tokens)
+stops_refused tokens i t focus fs fault h is reads c f stop =
+    elim stop [
+      | inl memory ↦ inl memory
+      | inr s ↦ inr (λ _. refused_at tokens i t focus fs fault h is reads c f s)
+    ]
 
-pub never_refused : (fault : ParseFault) (tokens : List Token) (r : IsRefused fault tokens) (gs : List FunctionTree) → Derives tokens gs → AreWithin gs → fault ≡ Memory
-never_refused fault tokens r gs d w =
-    let e : tokens ≡ (r.before ++ (r.token ∷ [])) ++ r.behind = r.whole ∙ sym (append_assoc r.before (r.token ∷ []) r.behind) in
-    never_faulty fault r.before r.behind r.token gs r.why (subst (λ ts. Derives ts gs) e d) w
-
-pub token_stops : (tokens : List Token) (i : ℕ) (t : Token) (focus : UnitFocus) (fs : List FunctionTree) (fault : ParseFault) → i < length tokens → t ≡ get_or tokens i t →
-    HasRead (take i tokens) focus fs → CanBe focus → RunFits focus fs → IsStop fault t (unit_step t.kind t.pos focus) →
+-- It stops at no text within the limits but for memory.
+pub stops_memory : (tokens : List Token) (i : ℕ) (t : Token) (focus : UnitFocus) (fs : List FunctionTree) (fault : ParseFault) → i < length tokens → t ≡ get_or tokens i t →
+    HasRead (take i tokens) focus fs → CanBe focus → RunFits focus fs → (fault ≡ Memory) ⊎ IsStop fault t (unit_step t.kind t.pos focus) →
     (gs : List FunctionTree) → Derives tokens gs → AreWithin gs → fault ≡ Memory
-token_stops tokens i t focus fs fault h is reads c f stop = never_refused fault tokens (refused_at tokens i t focus fs fault h is reads c f stop)
+stops_memory tokens i t focus fs fault h is reads c f stop gs d w =
+    elim stop [
+      | inl memory ↦ memory
+      | inr s ↦ absurd (refused_none tokens fault (refused_at tokens i t focus fs fault h is reads c f s) gs d w)
+    ]
 
 -- all tokens
 all_tokens : (tokens : List Token) (i : ℕ) → length tokens ≤ i → i ≤ length tokens → take i tokens ≡ tokens

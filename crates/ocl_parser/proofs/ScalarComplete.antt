@@ -1,15 +1,14 @@
 -- The words of each spelling of a scalar type are read.
-use Rattle.std.proofs.Common.{◌≡◌, refl, List, [], ◌∷◌, Option, Some, None}
+use Rattle.std.proofs.Common.{◌≡◌, refl, List, [], ◌∷◌, Some}
 use Rattle.ocl_tokens.specs.declared.tokens.Token.{Token}
 use Rattle.ocl_tokens.specs.declared.tokens.TokenKind.TheVariants.{Word as WordKind}
 use Rattle.ocl_tokens.specs.declared.words.Word.{Word}
 use Rattle.ocl_tokens.specs.declared.words.Word.TheVariants.{Char, Uchar, Short, Ushort, Int, Uint, SizeT, Signed, Unsigned}
-use Rattle.ocl_parser.specs.Spellings.{Rest, one, word, words}
+use Rattle.ocl_parser.specs.Spellings.{Rest, word, words}
 use Rattle.ocl_parser.specs.Scalars.{scalar_words}
 use Rattle.ocl_parser.specs.ScalarSteps.{scalar_first, scalar_more}
 use Rattle.ocl_parser.specs.declared.scalars.Scalar.{Scalar}
 use Rattle.ocl_parser.specs.declared.scalars.Scalar.TheVariants.{OnlySigned, OnlyUnsigned, Chars, Shorts, ShortInts, Ints, UcharWord, UshortWord, UintWord, SizeWord}
-use Rattle.ocl_parser.specs.declared.scalars.Sign.{Sign}
 use Rattle.ocl_parser.specs.declared.scalars.Sign.TheVariants.{NoSign, SignedSign, UnsignedSign}
 use Rattle.ocl_parser.proofs.Texts.{Leads}
 

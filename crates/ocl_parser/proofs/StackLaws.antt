@@ -1,11 +1,10 @@
 -- The innermost frame of a stack, and the levels that it counts.
-use Rattle.std.proofs.Common.{◌≡◌, ◌+◌, ◌-◌, ◌≤◌, refl, sym, ap, arith, ◌∙◌, ℕ, max, length, reverse, List, [], ◌∷◌, ◌++◌, Option, Some, None}
+use Rattle.std.proofs.Common.{◌≡◌, ◌-◌, ◌≤◌, refl, sym, ap, arith, ◌∙◌, max, length, reverse, List, [], ◌∷◌, ◌++◌, Some, None}
 use Rattle.std.proofs.lemmas.List.{reverse-append, reverse-reverse, length-append, length-reverse}
 use Rattle.std.specs.Prelude.{slice_get}
 use Rattle.ocl_ast.specs.Measures.{height, args_height}
 use Rattle.ocl_ast.specs.Shapes.{tree_of, arg_trees}
 use Rattle.ocl_ast.specs.declared.exprs.Expr.{Expr}
-use Rattle.ocl_parser.specs.ExprSteps.{and_arg}
 use Rattle.ocl_parser.specs.Levels.{beside, levels_around}
 use Rattle.ocl_parser.specs.Rooms.{left_height, last_height}
 use Rattle.ocl_parser.specs.declared.states.ExprFrame.{ExprFrame}

@@ -9,7 +9,7 @@ use Rattle.ocl_tokens.specs.declared.tokens.TokenKind.{TokenKind}
 use Rattle.ocl_tokens.specs.declared.tokens.TokenKind.TheVariants.{Word as WordKind, Mark as MarkKind}
 use Rattle.ocl_tokens.specs.declared.words.Word.{Word}
 use Rattle.ocl_parser.specs.Starts.{is_closing, is_semicolon, first_part}
-use Rattle.ocl_parser.specs.StmtSteps.{StmtNext, GoesOn, Stops, assign_start, begin_step, call_open, first_start, test_start, returning_step, declared_end}
+use Rattle.ocl_parser.specs.StmtSteps.{GoesOn, Stops, assign_start, begin_step, call_open, first_start, test_start, returning_step, declared_end}
 use Rattle.ocl_parser.specs.declared.states.Part.{Part}
 use Rattle.ocl_parser.specs.declared.states.Part.TheVariants.{InFirst, InStep}
 use Rattle.ocl_parser.specs.declared.states.Purpose.TheVariants.{ArgsOf, ForTest, ReturnOf}

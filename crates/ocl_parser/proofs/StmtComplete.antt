@@ -1,39 +1,31 @@
 -- Each text of statements is read.
-use Rattle.std.proofs.Common.{◌≡◌, ◌⊎◌, inl, inr, refl, sym, subst, ap, ◌∙◌, Bool, true, false, cond, ℕ, nat_eq, length, List, [], ◌∷◌, Option, Some, None, true≢false}
-use Rattle.vx_base.specs.declared.types.Elem.{Elem}
+use Rattle.std.proofs.Common.{◌≡◌, inl, inr, refl, sym, subst, ap, ◌∙◌, Bool, true, false, List, [], ◌∷◌, Option, true≢false}
 use Rattle.vx_base.specs.declared.types.Pos.{Pos}
 use Rattle.ocl_ast.specs.declared.exprs.Ident.{Ident}
 use Rattle.ocl_ast.specs.declared.stmts.AssignOp.{AssignOp}
 use Rattle.ocl_ast.specs.Trees.{ExprTree, ArgTrees, NoArgs, AndArg, TargetTree, StmtTree, DeclareTree, LocalArrayTree, AssignTree, CallStmtTree, BarrierTree, IfTree, IfElseTree, WhileTree, DoTree, ForTree, BreakTree, ContinueTree, ReturnTree, BlockTree, EmptyTree, StmtTrees, NoStmts, AndStmt}
-use Rattle.ocl_tokens.specs.declared.marks.Mark.{Mark}
-use Rattle.ocl_tokens.specs.declared.marks.Mark.TheVariants.{OpenParen, CloseParen, OpenBrace, CloseBrace, OpenBracket, CloseBracket, Semicolon, Comma, Bar, PlusPlus, MinusMinus}
+use Rattle.ocl_tokens.specs.declared.marks.Mark.TheVariants.{CloseParen, OpenBrace, CloseBrace, Semicolon, Comma, PlusPlus, MinusMinus}
 use Rattle.ocl_tokens.specs.declared.tokens.Token.{Token}
 use Rattle.ocl_tokens.specs.declared.tokens.TokenKind.{TokenKind}
-use Rattle.ocl_tokens.specs.declared.tokens.TokenKind.TheVariants.{Name as NameKind, Word as WordKind, Number as NumberKind, Mark as MarkKind, End}
-use Rattle.ocl_tokens.specs.declared.words.Word.{Word}
-use Rattle.ocl_tokens.specs.declared.words.Word.TheVariants.{UnderscoreLocal, Local, Const, Volatile, Char, Uchar, Short, Ushort, Int, Uint, SizeT, Signed, Unsigned, If, Else, While, Do, For, Break, Continue, Return, Barrier}
-use Rattle.ocl_parser.specs.Spellings.{Rest, one, mark, word, word_at, name, IsNumber}
-use Rattle.ocl_parser.specs.Scalars.{scalar, scalar_words, scalar_elem}
-use Rattle.ocl_parser.specs.ScalarSteps.{scalar_first, scalar_more}
-use Rattle.ocl_parser.specs.Exprs.{expr_text, args_text, more_args_text, option_text, IsGrouped, AreGrouped, IsGroupedIfAny}
-use Rattle.ocl_parser.specs.Stmts.{assign_text, declarator_text, more_numbers_text, IsLocalWord, more_assigns_text, assigns_text, more_names_text, first_text, stmt_text, items_text, names_text, takes_else, IsOrderly, AreOrderly}
+use Rattle.ocl_tokens.specs.declared.tokens.TokenKind.TheVariants.{Name as NameKind, Word as WordKind, Mark as MarkKind}
+use Rattle.ocl_tokens.specs.declared.words.Word.TheVariants.{Const, Volatile, Char, Uchar, Short, Ushort, Int, Uint, SizeT, Signed, Unsigned, If, Else, While, Do, For, Break, Continue, Return, Barrier}
+use Rattle.ocl_parser.specs.Spellings.{Rest, one, mark, IsNumber}
+use Rattle.ocl_parser.specs.Exprs.{expr_text, args_text, more_args_text, IsGrouped, AreGrouped}
+use Rattle.ocl_parser.specs.Stmts.{assign_text, more_numbers_text, IsLocalWord, stmt_text, items_text, takes_else, IsOrderly}
 use Rattle.ocl_parser.specs.ExprSteps.{and_arg}
-use Rattle.ocl_parser.specs.StmtSteps.{StmtNext, GoesOn, Closes, Stops, and_stmt, stmt_step, item_step, body_step, begin_step, assign_start, first_start, test_start, step_start, returning_step, call_open, qualified_step, Placed, placed, finished, finished_step, placed_step, is_else, ends_with, completed, local_read}
-use Rattle.ocl_parser.specs.declared.scalars.Scalar.{Scalar}
+use Rattle.ocl_parser.specs.StmtSteps.{and_stmt, stmt_step, item_step, body_step, begin_step, assign_start, first_start, test_start, step_start, returning_step, call_open, qualified_step, finished, is_else}
 use Rattle.ocl_parser.specs.declared.states.ExprFocus.TheVariants.{Operand}
 use Rattle.ocl_parser.specs.declared.states.Part.{Part}
 use Rattle.ocl_parser.specs.declared.states.Part.TheVariants.{InBlock, InFirst, InStep}
-use Rattle.ocl_parser.specs.declared.states.Purpose.TheVariants.{CountOf, ArgsOf, IfTest, WhileTest, DoTest, ForTest, ReturnOf}
+use Rattle.ocl_parser.specs.declared.states.Purpose.TheVariants.{ArgsOf, ForTest, ReturnOf}
 use Rattle.ocl_parser.specs.declared.states.StmtFocus.{StmtFocus}
-use Rattle.ocl_parser.specs.declared.states.StmtFocus.TheVariants.{ItemStart, BodyStart, Finished, Ending, Reading, IfWord, WhileWord, ForWord, DoWhile, BarrierWord, BarrierOpen, BarrierNumber, NameNext, LocalWord, LocalScalar, LocalNamed, AssignNext, AssignNamed, Assigned, CallOpen, FirstStart, TestStart, StepStart, Returning}
+use Rattle.ocl_parser.specs.declared.states.StmtFocus.TheVariants.{ItemStart, BodyStart, Finished, Ending, Reading, BarrierOpen, BarrierNumber, AssignNext, Assigned, CallOpen}
 use Rattle.ocl_parser.specs.declared.states.StmtFrame.{StmtFrame}
-use Rattle.ocl_parser.specs.declared.states.StmtFrame.TheVariants.{Block as BlockFrame, Then as ThenFrame, Else as ElseFrame, While as WhileFrame, Do as DoFrame, For as ForFrame}
 use Rattle.ocl_parser.proofs.Texts.{Leads}
-use Rattle.ocl_parser.proofs.ScalarComplete.{ReadsWords, scalar_complete}
 use Rattle.ocl_parser.proofs.ExprComplete.{is_first, all_args, all_none, all_first}
-use Rattle.ocl_parser.proofs.StmtTakes.{TakesStmts, is_closer, Closers, closer_one, stmt_at, stmt_one, expr_mark, expr_begin}
+use Rattle.ocl_parser.proofs.StmtTakes.{TakesStmts, Closers, stmt_one, expr_mark, expr_begin}
 use Rattle.ocl_parser.proofs.AssignComplete.{is_assign_first, AssignStarts, assign_starts, assign_complete}
-use Rattle.ocl_parser.proofs.DeclareComplete.{is_type_first, TypeStarts, type_starts, EndsName, NameEnds, declarator_complete, declare_complete}
+use Rattle.ocl_parser.proofs.DeclareComplete.{is_type_first, TypeStarts, type_starts}
 
 -- Tokens that may begin a statement that is no declaration.
 abbrev pub is_stmt_first : TokenKind → Bool

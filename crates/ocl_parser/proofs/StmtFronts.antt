@@ -1,14 +1,13 @@
 -- What the reader has read of a statement, as texts.
-use Rattle.std.proofs.Common.{◌≡◌, ◌⊎◌, Bool, true, false, List, [], ◌∷◌, Option, Some, None}
+use Rattle.std.proofs.Common.{◌≡◌, Bool, false, List, [], ◌∷◌, Option, Some, None}
 use Rattle.vx_base.specs.declared.types.Elem.{Elem}
 use Rattle.vx_base.specs.declared.types.Pos.{Pos}
 use Rattle.ocl_ast.specs.declared.exprs.Ident.{Ident}
 use Rattle.ocl_ast.specs.declared.stmts.AssignOp.{AssignOp}
 use Rattle.ocl_ast.specs.declared.stmts.AssignOp.TheVariants.{Set, With, Up, Down}
-use Rattle.ocl_ast.specs.Trees.{ExprTree, TargetTree, StmtTree, DeclareTree, LocalArrayTree, AssignTree, CallStmtTree, BarrierTree, DoTree, BreakTree, ContinueTree, ReturnTree, StmtTrees, NoStmts, AndStmt}
+use Rattle.ocl_ast.specs.Trees.{ExprTree, TargetTree, StmtTree, DeclareTree, LocalArrayTree, AssignTree, CallStmtTree, BarrierTree, DoTree, BreakTree, ContinueTree, StmtTrees, NoStmts, AndStmt}
 use Rattle.ocl_tokens.specs.declared.marks.Mark.{Mark}
 use Rattle.ocl_tokens.specs.declared.marks.Mark.TheVariants.{OpenParen, CloseParen, OpenBrace, CloseBrace, OpenBracket, CloseBracket, Semicolon, Comma, Bar, Equal, PlusPlus, MinusMinus}
-use Rattle.ocl_tokens.specs.declared.tokens.Token.{Token}
 use Rattle.ocl_tokens.specs.declared.words.Word.{Word}
 use Rattle.ocl_tokens.specs.declared.words.Word.TheVariants.{If, Else, While, Do, For, Break, Continue, Return, Barrier}
 use Rattle.ocl_parser.specs.Spellings.{Rest, no_text, either, given, one, mark, mark_at, word, word_at, words, name, set_mark, IsNumber}
@@ -24,9 +23,9 @@ use Rattle.ocl_parser.specs.declared.states.StmtFocus.{StmtFocus}
 use Rattle.ocl_parser.specs.declared.states.StmtFocus.TheVariants.{ItemStart, BodyStart, Finished, Ending, Reading, IfWord, WhileWord, ForWord, DoWhile, BarrierWord, BarrierOpen, BarrierNumber, QualifiersRead, ScalarRead, TypeRead, NameNext, Declared, LocalWord, LocalScalar, LocalNamed, AssignNext, AssignNamed, CountedBefore, CountedNamed, Targeted, Assigned, CallOpen, FirstStart, TestStart, StepStart, Returning}
 use Rattle.ocl_parser.specs.declared.states.StmtFrame.{StmtFrame}
 use Rattle.ocl_parser.specs.declared.states.StmtFrame.TheVariants.{Block as BlockFrame, Then as ThenFrame, Else as ElseFrame, While as WhileFrame, Do as DoFrame, For as ForFrame}
-use Rattle.ocl_parser.proofs.Texts.{Leads, same, one_mono, words_mono, scalar_mono, expr_mono, after}
+use Rattle.ocl_parser.proofs.Texts.{Leads, same, one_mono, words_mono, scalar_mono, expr_mono}
 use Rattle.ocl_parser.proofs.ExprTexts.{args_before, args_before_mono, read_text}
-use Rattle.ocl_parser.proofs.StmtTexts.{either_mono, given_mono, option_mono, qualifiers_mono, type_mono, target_mono, assign_mono, declarator_mono, assigns_mono, more_names_mono, first_mono, stmt_mono, items_mono}
+use Rattle.ocl_parser.proofs.StmtTexts.{either_mono, given_mono, option_mono, qualifiers_mono, type_mono, target_mono, declarator_mono, assigns_mono, more_names_mono, first_mono, stmt_mono, items_mono}
 
 -- statements, and more behind them
 abbrev pub joined : StmtTrees → StmtTrees → StmtTrees

@@ -1,5 +1,5 @@
 -- What the reader reads of a statement is a text of what it has made.
-use Rattle.std.proofs.Common.{◌≡◌, refl, sym, subst, ap, inl, inr, Bool, true, false, cond, ℕ, not, nat_eq, length, List, [], ◌∷◌, ◌++◌, Option, Some, None, true≢false, arith}
+use Rattle.std.proofs.Common.{◌≡◌, refl, sym, subst, inl, inr, Bool, true, false, cond, nat_eq, length, List, [], ◌∷◌, Option, Some, None, true≢false, arith}
 use Rattle.std.proofs.lemmas.Bool.Decides.{nat_tests}
 use Rattle.vx_base.specs.declared.types.Elem.{Elem}
 use Rattle.vx_base.specs.declared.types.Pos.{Pos}
@@ -8,25 +8,23 @@ use Rattle.ocl_ast.specs.declared.exprs.BinOp.TheVariants.{Mul, Div, Rem, Add, S
 use Rattle.ocl_ast.specs.declared.exprs.Ident.{Ident}
 use Rattle.ocl_ast.specs.declared.stmts.AssignOp.{AssignOp}
 use Rattle.ocl_ast.specs.declared.stmts.AssignOp.TheVariants.{Set, With, Up, Down}
-use Rattle.ocl_ast.specs.Trees.{ExprTree, ArgTrees, NoArgs, TargetTree, NameTarget, IndexTarget, StmtTree, DeclareTree, LocalArrayTree, AssignTree, CallStmtTree, BarrierTree, IfTree, IfElseTree, WhileTree, DoTree, ForTree, BreakTree, ContinueTree, ReturnTree, BlockTree, EmptyTree, StmtTrees, NoStmts, AndStmt}
+use Rattle.ocl_ast.specs.Trees.{ExprTree, ArgTrees, NoArgs, TargetTree, NameTarget, IndexTarget, StmtTree, DeclareTree, LocalArrayTree, AssignTree, CallStmtTree, BarrierTree, DoTree, BreakTree, ContinueTree, ReturnTree, StmtTrees, NoStmts, AndStmt}
 use Rattle.ocl_tokens.specs.declared.marks.Mark.{Mark}
 use Rattle.ocl_tokens.specs.declared.marks.Mark.TheVariants.{OpenParen, CloseParen, OpenBrace, CloseBrace, OpenBracket, CloseBracket, Semicolon, Comma, Bar, Equal, PlusEqual, MinusEqual, StarEqual, SlashEqual, PercentEqual, ShiftLeftEqual, ShiftRightEqual, AmpersandEqual, CaretEqual, BarEqual, PlusPlus, MinusMinus}
 use Rattle.ocl_tokens.specs.declared.tokens.Token.{Token}
 use Rattle.ocl_tokens.specs.declared.tokens.TokenKind.{TokenKind}
-use Rattle.ocl_tokens.specs.declared.tokens.TokenKind.TheVariants.{Name as NameKind, Word as WordKind, Number as NumberKind, Mark as MarkKind, End}
+use Rattle.ocl_tokens.specs.declared.tokens.TokenKind.TheVariants.{Name as NameKind, Word as WordKind, Number as NumberKind, Mark as MarkKind}
 use Rattle.ocl_tokens.specs.declared.words.Word.{Word}
 use Rattle.ocl_tokens.specs.declared.words.Word.TheVariants.{UnderscoreLocal, Local, Const, Volatile, If, Else, While, Do, For, Break, Continue, Return, Barrier}
 use Rattle.ocl_parser.specs.declared.scalars.Scalar.{Scalar}
-use Rattle.ocl_parser.specs.Spellings.{Rest, no_text, either, given, one, mark, mark_at, word, word_at, words, name, set_mark, IsNumber}
-use Rattle.ocl_parser.specs.Scalars.{scalar, scalar_words, scalar_elem, declared_type}
+use Rattle.ocl_parser.specs.Spellings.{Rest, one, mark, word_at, words, name, set_mark, IsNumber}
+use Rattle.ocl_parser.specs.Scalars.{scalar, scalar_words, declared_type}
 use Rattle.ocl_parser.specs.ScalarSteps.{scalar_first, scalar_more}
-use Rattle.ocl_parser.specs.Exprs.{expr_text, args_text, option_text}
-use Rattle.ocl_parser.specs.Stmts.{target_text, set_text, assign_text, declarator_text, more_numbers_text, IsLocalWord, assigns_text, first_text, stmt_text, items_text}
+use Rattle.ocl_parser.specs.Exprs.{expr_text}
+use Rattle.ocl_parser.specs.Stmts.{target_text, set_text, assign_text, declarator_text, more_numbers_text, IsLocalWord, first_text}
 use Rattle.ocl_parser.specs.ExprSteps.{ExprNext, Goes, Ends, Refuses, operand_step, expr_step}
-use Rattle.ocl_parser.specs.StmtSteps.{StmtNext, GoesOn, Closes, Stops, and_stmt, set_of, count_of, scalar_read, qualified_word, qualified_step, typed_step, scalar_word, scalar_step, name_step, and_item, declared_end, declared_step, local_read, local_word, local_scalar, local_named, begun, begin_step, assign_end, counted_start, assign_start, set_target, target_mark, target_step, call_start, assign_named, counted_before, counted_named, call_open, barrier_open, barrier_number, open_step, ending_step, first_word, first_start, test_start, step_start, returning_step, end_count, end_index, end_counted, end_args, close_with, end_test, end_step, reading_step, body_word, body_mark, body_step, close_items, close_block, item_scalar, item_word, item_step, Placed, placed, ends_with, completed, finished, is_else, else_step, while_step, placed_step, finished_step, stmt_step}
-use Rattle.ocl_parser.specs.declared.states.ExprFocus.{ExprFocus}
+use Rattle.ocl_parser.specs.StmtSteps.{and_stmt, set_of, count_of, scalar_read, qualified_word, qualified_step, typed_step, scalar_word, scalar_step, name_step, and_item, declared_end, declared_step, local_read, local_word, local_scalar, local_named, begun, begin_step, assign_end, counted_start, assign_start, set_target, target_mark, target_step, call_start, assign_named, counted_before, counted_named, call_open, barrier_open, barrier_number, open_step, ending_step, first_start, test_start, step_start, returning_step, end_count, end_index, end_counted, end_args, close_with, end_test, end_step, reading_step, body_word, body_mark, body_step, close_items, close_block, item_scalar, item_word, item_step, placed, ends_with, completed, finished, is_else, else_step, while_step, placed_step, finished_step, stmt_step}
 use Rattle.ocl_parser.specs.declared.states.ExprFocus.TheVariants.{Operand}
-use Rattle.ocl_parser.specs.declared.states.ExprFrame.{ExprFrame}
 use Rattle.ocl_parser.specs.declared.states.Part.{Part}
 use Rattle.ocl_parser.specs.declared.states.Part.TheVariants.{InBlock, InFirst, InStep}
 use Rattle.ocl_parser.specs.declared.states.Purpose.{Purpose}
@@ -36,10 +34,10 @@ use Rattle.ocl_parser.specs.declared.states.StmtFocus.TheVariants.{ItemStart, Bo
 use Rattle.ocl_parser.specs.declared.states.StmtFrame.{StmtFrame}
 use Rattle.ocl_parser.specs.declared.states.StmtFrame.TheVariants.{Block as BlockFrame, Then as ThenFrame, Else as ElseFrame, While as WhileFrame, Do as DoFrame, For as ForFrame}
 use Rattle.ocl_parser.proofs.Texts.{Leads, same, then, any, one_mono, words_mono, scalar_mono, expr_mono, args_mono, after, taken}
-use Rattle.ocl_parser.proofs.ExprTexts.{args_before, args_before_mono, read_text, next_text, args_last, args_comma}
+use Rattle.ocl_parser.proofs.ExprTexts.{args_before_mono, next_text, args_last, args_comma}
 use Rattle.ocl_parser.proofs.ExprSound.{scalar_made, first_words, more_words, word_taken, operand_reads, expr_reads}
-use Rattle.ocl_parser.proofs.StmtTexts.{either_mono, type_mono, target_mono, assign_mono, declarator_mono, assigns_mono, first_mono, stmt_mono, items_mono, numbers_mono, option_mono, given_mono, qualifiers_mono}
-use Rattle.ocl_parser.proofs.StmtFronts.{for_open, for_front, frame_front, frames_front, item_front, declare_front, open_front, named_front, type_words, after_assigns, assign_front, count_front, sign_front, value_front, assigned_front, numbers_front, local_text, ending_front, whole_front, purpose_front, stmt_front, next_front, for_mono, front_mono, item_mono, declare_mono, open_mono, named_mono, type_words_mono, after_mono, assigning_mono, count_mono, value_mono, purpose_mono, open_item, first_open, open_item_mono, first_open_mono}
+use Rattle.ocl_parser.proofs.StmtTexts.{type_mono, target_mono, assign_mono, declarator_mono, first_mono, stmt_mono, items_mono, numbers_mono, given_mono, qualifiers_mono}
+use Rattle.ocl_parser.proofs.StmtFronts.{for_open, for_front, frames_front, item_front, declare_front, open_front, named_front, type_words, assign_front, count_front, sign_front, value_front, assigned_front, numbers_front, ending_front, whole_front, purpose_front, stmt_front, next_front, for_mono, front_mono, item_mono, declare_mono, open_mono, named_mono, after_mono, assigning_mono, count_mono, purpose_mono, open_item, first_open}
 use Rattle.ocl_parser.proofs.ItemSound.{nothing, both_lead, left, untyped, right, const_last, volatile_last, typed, type_const, type_volatile, one_number, number_last, with_stmt, with_local, open_first, open_last, open_end, first_first, first_last, first_end, assigns_last, assigns_comma, first_assigned}
 
 nonempty : (f : StmtFrame) (K : List StmtFrame) → nat_eq (length (f ∷ K)) 0 ≡ false

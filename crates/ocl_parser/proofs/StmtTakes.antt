@@ -1,5 +1,5 @@
 -- What is asked of a reader of statements, and how it reads single tokens and the expressions of a statement.
-use Rattle.std.proofs.Common.{◌≡◌, ◌≤◌, refl, sym, subst, ap, ◌∙◌, arith, Bool, true, false, ℕ, List, [], ◌∷◌, Option, Some, None, true≢false}
+use Rattle.std.proofs.Common.{◌≡◌, refl, sym, subst, ap, ◌∙◌, arith, Bool, true, false, ℕ, List, [], ◌∷◌, true≢false}
 use Rattle.vx_base.specs.declared.types.Pos.{Pos}
 use Rattle.ocl_ast.specs.Trees.{ExprTree}
 use Rattle.ocl_tokens.specs.declared.marks.Mark.{Mark}
@@ -9,8 +9,8 @@ use Rattle.ocl_tokens.specs.declared.tokens.TokenKind.{TokenKind}
 use Rattle.ocl_tokens.specs.declared.tokens.TokenKind.TheVariants.{Name as NameKind, Word as WordKind, Number as NumberKind, Mark as MarkKind, End}
 use Rattle.ocl_parser.specs.Spellings.{Rest, one, mark}
 use Rattle.ocl_parser.specs.Exprs.{expr_text, rank, IsGrouped}
-use Rattle.ocl_parser.specs.ExprSteps.{ExprNext, Goes, Ends, Refuses, settled, standing, operand_step, operand_mark, done_step, close_standing, expr_step}
-use Rattle.ocl_parser.specs.StmtSteps.{StmtNext, GoesOn, Closes, Stops, stmt_step, reading_step, begin_step, end_step}
+use Rattle.ocl_parser.specs.ExprSteps.{settled, operand_step, operand_mark, done_step, close_standing}
+use Rattle.ocl_parser.specs.StmtSteps.{GoesOn, stmt_step, reading_step, begin_step, end_step}
 use Rattle.ocl_parser.specs.declared.states.ExprFocus.{ExprFocus}
 use Rattle.ocl_parser.specs.declared.states.ExprFocus.TheVariants.{Operand, Done}
 use Rattle.ocl_parser.specs.declared.states.ExprFrame.{ExprFrame}
@@ -19,7 +19,7 @@ use Rattle.ocl_parser.specs.declared.states.StmtFocus.{StmtFocus}
 use Rattle.ocl_parser.specs.declared.states.StmtFocus.TheVariants.{Reading}
 use Rattle.ocl_parser.specs.declared.states.StmtFrame.{StmtFrame}
 use Rattle.ocl_parser.proofs.Texts.{Leads}
-use Rattle.ocl_parser.proofs.ExprComplete.{Follows, IsBehind, is_behind, is_first, Takes, Waits, Alike, Starts, starts, complete}
+use Rattle.ocl_parser.proofs.ExprComplete.{Follows, is_behind, is_first, Takes, Waits, Alike, Starts, starts, complete}
 
 -- What it takes depends on what a token does alone.
 pub record TakesStmts (accepts : StmtFocus → List StmtFrame → Rest) : Type 0 where

@@ -1,5 +1,5 @@
 -- The texts of statements, with what holds behind them replaced by what it leads to.
-use Rattle.std.proofs.Common.{◌≡◌, ◌⊎◌, inl, inr, refl, Bool, List, [], ◌∷◌, Option, Some, None}
+use Rattle.std.proofs.Common.{inl, inr, Bool, List, [], ◌∷◌, Option, Some, None}
 use Rattle.vx_base.specs.declared.types.Elem.{Elem}
 use Rattle.vx_base.specs.declared.types.Pos.{Pos}
 use Rattle.ocl_ast.specs.declared.exprs.Ident.{Ident}
@@ -12,7 +12,7 @@ use Rattle.ocl_tokens.specs.declared.tokens.Token.{Token}
 use Rattle.ocl_parser.specs.Spellings.{Rest, either, given, set_mark}
 use Rattle.ocl_parser.specs.Scalars.{qualifiers, declared_type}
 use Rattle.ocl_parser.specs.Exprs.{option_text}
-use Rattle.ocl_parser.specs.Stmts.{target_text, set_text, count_text, assign_text, declarator_text, more_numbers_text, more_assigns_text, assigns_text, more_names_text, first_text, stmt_text, items_text, names_text}
+use Rattle.ocl_parser.specs.Stmts.{target_text, set_text, assign_text, declarator_text, more_numbers_text, more_assigns_text, assigns_text, more_names_text, first_text, stmt_text, items_text, names_text}
 use Rattle.ocl_parser.proofs.Texts.{Leads, same, one_mono, scalar_mono, expr_mono, args_mono}
 
 either_in : {a b c d : Rest} → Leads a c → Leads b d → (ts : List Token) → either a b ts → either c d ts

@@ -1,16 +1,12 @@
 -- What holds of the tokens behind a text may be replaced by what it leads to.
-use Rattle.std.proofs.Common.{◌≡◌, ◌⊎◌, refl, sym, subst, inl, inr, Bool, true, false, List, [], ◌∷◌, Option, Some, None}
+use Rattle.std.proofs.Common.{◌≡◌, sym, subst, List, [], ◌∷◌}
 use Rattle.vx_base.specs.declared.types.Elem.{Elem}
-use Rattle.vx_base.specs.declared.types.Pos.{Pos}
-use Rattle.ocl_ast.specs.declared.exprs.Ident.{Ident}
 use Rattle.ocl_ast.specs.Trees.{ExprTree, NumberTree, NameTree, UnaryTree, BinaryTree, BothTree, EitherTree, ChooseTree, CastTree, IndexTree, CallTree, ParenTree, ArgTrees, NoArgs, AndArg}
-use Rattle.ocl_tokens.specs.declared.marks.Mark.{Mark}
-use Rattle.ocl_tokens.specs.declared.marks.Mark.TheVariants.{OpenParen, CloseParen, OpenBracket, CloseBracket, Comma, Question, Colon, AndAnd, BarBar}
 use Rattle.ocl_tokens.specs.declared.tokens.Token.{Token}
 use Rattle.ocl_tokens.specs.declared.words.Word.{Word}
-use Rattle.ocl_parser.specs.Spellings.{Rest, one, mark, mark_at, word, words, name, unary_mark, binary_mark}
+use Rattle.ocl_parser.specs.Spellings.{Rest, one, words}
 use Rattle.ocl_parser.specs.Scalars.{scalar, scalar_words}
-use Rattle.ocl_parser.specs.Exprs.{expr_text, args_text, more_args_text, option_text}
+use Rattle.ocl_parser.specs.Exprs.{expr_text, args_text, more_args_text}
 
 pub record Leads (a b : Rest) : Type 0 where
   pub by : (ts : List Token) → a ts → b ts

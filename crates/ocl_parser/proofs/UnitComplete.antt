@@ -1,5 +1,5 @@
 -- Each text of a file is read.
-use Rattle.std.proofs.Common.{◌≡◌, ◌⊎◌, inl, inr, refl, sym, subst, ap, ◌∙◌, Bool, true, false, ◌||◌, List, [], ◌∷◌, ◌++◌, append_assoc, Option, Some, None, true≢false}
+use Rattle.std.proofs.Common.{◌≡◌, inl, inr, refl, sym, subst, ap, ◌∙◌, Bool, true, false, ◌||◌, List, [], ◌∷◌, ◌++◌, append_assoc, Option, Some, None, true≢false}
 use Rattle.vx_base.specs.declared.types.Elem.{Elem}
 use Rattle.vx_base.specs.declared.types.ParamKind.{ParamKind}
 use Rattle.vx_base.specs.declared.types.ParamKind.TheVariants.{Scalar as ScalarKind, Pointer}
@@ -10,20 +10,18 @@ use Rattle.ocl_ast.specs.declared.units.Gives.{Gives}
 use Rattle.ocl_ast.specs.declared.units.Gives.TheVariants.{Nothing, Value}
 use Rattle.ocl_ast.specs.declared.units.Param.{Param}
 use Rattle.ocl_ast.specs.Trees.{FunctionTree, StmtTrees, NoStmts}
-use Rattle.ocl_tokens.specs.declared.marks.Mark.{Mark}
 use Rattle.ocl_tokens.specs.declared.marks.Mark.TheVariants.{OpenParen, CloseParen, OpenBrace, CloseBrace, Comma, Star}
 use Rattle.ocl_tokens.specs.declared.tokens.Token.{Token}
 use Rattle.ocl_tokens.specs.declared.tokens.TokenKind.{TokenKind}
-use Rattle.ocl_tokens.specs.declared.tokens.TokenKind.TheVariants.{Name as NameKind, Word as WordKind, Mark as MarkKind, End}
+use Rattle.ocl_tokens.specs.declared.tokens.TokenKind.TheVariants.{Name as NameKind, Word as WordKind, Mark as MarkKind}
 use Rattle.ocl_tokens.specs.declared.words.Word.{Word}
-use Rattle.ocl_tokens.specs.declared.words.Word.TheVariants.{UnderscoreKernel, Kernel, UnderscoreGlobal, Global, UnderscoreConstant, Constant, UnderscoreLocal, Local, Const, Volatile, Restrict, Inline, Static, Void, Char, Uchar, Short, Ushort, Int, Uint, SizeT, Signed, Unsigned}
-use Rattle.ocl_parser.specs.Spellings.{Rest, either, given, one, mark, word, words, name}
-use Rattle.ocl_parser.specs.Scalars.{scalar, scalar_words, scalar_elem, qualifiers}
-use Rattle.ocl_parser.specs.ScalarSteps.{scalar_first, scalar_more}
+use Rattle.ocl_tokens.specs.declared.words.Word.TheVariants.{UnderscoreKernel, Kernel, UnderscoreGlobal, Global, UnderscoreConstant, Constant, UnderscoreLocal, Local, Const, Volatile, Inline, Static, Void}
+use Rattle.ocl_parser.specs.Spellings.{Rest, either, given, one, mark, word, name}
+use Rattle.ocl_parser.specs.Scalars.{scalar, scalar_elem, qualifiers}
+use Rattle.ocl_parser.specs.ScalarSteps.{scalar_first}
 use Rattle.ocl_parser.specs.Stmts.{items_text, AreOrderly}
-use Rattle.ocl_parser.specs.StmtSteps.{GoesOn, Closes, stmt_step}
 use Rattle.ocl_parser.specs.Units.{IsSpaceWord, before_text, behind_text, is_constant, param_end_text, param_text, more_params_text, params_text, helper_words_text, gives_text, IsKernelWord, head_text, function_text, unit_text, AreOrderlyFunctions, Derives}
-use Rattle.ocl_parser.specs.UnitSteps.{UnitNext, Reads, Adds, Fails, unit_step, inside_step, and_param, param_word, param_scalar, params_step, open_params, param_more, scalar_word_step, type_step, gives_read, helper_word, helper_step, outside_step}
+use Rattle.ocl_parser.specs.UnitSteps.{UnitNext, Reads, unit_step, inside_step, and_param, param_word, param_scalar, params_step, open_params, param_more, scalar_word_step, type_step, gives_read, helper_word, helper_step, outside_step}
 use Rattle.ocl_parser.specs.Runs.{go_on, run}
 use Rattle.ocl_parser.specs.declared.scalars.Scalar.{Scalar}
 use Rattle.ocl_parser.specs.declared.states.Head.{Head}

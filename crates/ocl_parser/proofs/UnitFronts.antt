@@ -1,5 +1,5 @@
 -- What the reader has read of a file, as texts.
-use Rattle.std.proofs.Common.{◌≡◌, ◌⊎◌, inl, inr, refl, sym, ap, subst, Bool, true, false, ◌||◌, List, [], ◌∷◌, ◌++◌, Option, Some, None}
+use Rattle.std.proofs.Common.{◌≡◌, ◌⊎◌, inl, inr, refl, Bool, true, false, ◌||◌, List, [], ◌∷◌, ◌++◌, Option, Some, None}
 use Rattle.vx_base.specs.declared.types.Elem.{Elem}
 use Rattle.vx_base.specs.declared.types.ParamKind.{ParamKind}
 use Rattle.vx_base.specs.declared.types.ParamKind.TheVariants.{Scalar as ScalarKind, Pointer}
@@ -8,20 +8,20 @@ use Rattle.ocl_ast.specs.declared.units.Gives.{Gives}
 use Rattle.ocl_ast.specs.declared.units.Gives.TheVariants.{Nothing, Value}
 use Rattle.ocl_ast.specs.declared.units.Param.{Param}
 use Rattle.ocl_ast.specs.Trees.{FunctionTree}
-use Rattle.ocl_tokens.specs.declared.marks.Mark.TheVariants.{OpenParen, CloseParen, OpenBrace, CloseBrace, Comma, Star}
+use Rattle.ocl_tokens.specs.declared.marks.Mark.TheVariants.{OpenParen, CloseParen, Comma, Star}
 use Rattle.ocl_tokens.specs.declared.tokens.Token.{Token}
 use Rattle.ocl_tokens.specs.declared.tokens.TokenKind.TheVariants.{Word as WordKind, End}
 use Rattle.ocl_tokens.specs.declared.words.Word.TheVariants.{Const, Volatile, Restrict, Inline, Static, Void}
-use Rattle.ocl_parser.specs.Spellings.{Rest, no_text, either, given, one, mark, word, words, name}
+use Rattle.ocl_parser.specs.Spellings.{Rest, no_text, given, one, mark, word, words, name}
 use Rattle.ocl_parser.specs.Scalars.{scalar, scalar_words, qualifiers}
 use Rattle.ocl_parser.specs.Units.{IsSpaceWord, before_text, behind_text, is_constant, param_end_text, param_text, more_params_text, params_text, helper_words_text, gives_text, IsKernelWord, head_text, function_text, end_text, unit_text}
 use Rattle.ocl_parser.specs.UnitSteps.{UnitNext, Reads, Adds, Fails}
 use Rattle.ocl_parser.specs.declared.states.Head.{Head}
 use Rattle.ocl_parser.specs.declared.states.UnitFocus.{UnitFocus}
 use Rattle.ocl_parser.specs.declared.states.UnitFocus.TheVariants.{Outside, KernelRead, HelperWords, GivesRead, HeadRead, HeadNamed, ParamsOpen, VoidRead, ParamWords, ParamScalar, ParamType, Starred, ParamNamed, ParamsClosed, Inside, AtEnd}
-use Rattle.ocl_parser.proofs.Texts.{Leads, same, then, one_mono, words_mono, scalar_mono}
+use Rattle.ocl_parser.proofs.Texts.{Leads, same, one_mono, scalar_mono}
 use Rattle.ocl_parser.proofs.StmtTexts.{either_mono, given_mono, qualifiers_mono, items_mono}
-use Rattle.ocl_parser.proofs.ItemSound.{nothing, left, right}
+use Rattle.ocl_parser.proofs.ItemSound.{nothing}
 use Rattle.ocl_parser.proofs.StmtFronts.{stmt_front}
 
 -- whole functions

@@ -1,5 +1,5 @@
 -- The limits of a file, over each token and over all of them.
-use Rattle.std.proofs.Common.{◌≡◌, sym, subst, ◌≤◌, ◌+◌, arith, Bool, true, false, ℕ, List, [], ◌∷◌, ◌++◌, Option, Some, None}
+use Rattle.std.proofs.Common.{◌≡◌, sym, subst, ◌≤◌, ◌+◌, arith, Bool, false, ℕ, List, [], ◌∷◌, ◌++◌, Option, Some, None}
 use Rattle.vx_base.specs.declared.types.Elem.{Elem}
 use Rattle.vx_base.specs.declared.types.ParamKind.{ParamKind}
 use Rattle.vx_base.specs.declared.types.Pos.{Pos}

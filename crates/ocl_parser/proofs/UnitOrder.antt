@@ -1,5 +1,5 @@
 -- The reader groups the expressions of a file and gives each `else` to the nearest `if`; and what it makes of tokens derives from them.
-use Rattle.std.proofs.Common.{◌≡◌, refl, subst, Bool, true, false, ℕ, List, [], ◌∷◌, ◌++◌, Option, Some, None}
+use Rattle.std.proofs.Common.{◌≡◌, subst, Bool, false, ℕ, List, [], ◌∷◌, ◌++◌, Option, Some, None}
 use Rattle.vx_base.specs.declared.types.Elem.{Elem}
 use Rattle.vx_base.specs.declared.types.ParamKind.{ParamKind}
 use Rattle.vx_base.specs.declared.types.Pos.{Pos}

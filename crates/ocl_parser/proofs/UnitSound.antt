@@ -1,16 +1,14 @@
 -- What the reader reads of a file is a text of what it has made.
-use Rattle.std.proofs.Common.{◌≡◌, ◌⊎◌, inl, inr, refl, sym, ap, subst, ◌∙◌, Bool, true, false, ◌||◌, ℕ, List, [], ◌∷◌, ◌++◌, Option, Some, None}
+use Rattle.std.proofs.Common.{◌≡◌, inl, inr, refl, sym, ap, subst, Bool, true, false, ◌||◌, ℕ, List, [], ◌∷◌, ◌++◌, Option, Some, None}
 use Rattle.vx_base.specs.declared.types.Elem.{Elem}
 use Rattle.vx_base.specs.declared.types.ParamKind.{ParamKind}
 use Rattle.vx_base.specs.declared.types.ParamKind.TheVariants.{Scalar as ScalarKind, Pointer}
-use Rattle.vx_base.specs.declared.types.Pos.{Pos}
 use Rattle.vx_base.specs.declared.types.Space.{Space}
 use Rattle.ocl_ast.specs.declared.exprs.Ident.{Ident}
 use Rattle.ocl_ast.specs.declared.units.Gives.{Gives}
-use Rattle.ocl_ast.specs.declared.units.Gives.TheVariants.{Nothing, Value}
+use Rattle.ocl_ast.specs.declared.units.Gives.TheVariants.{Value}
 use Rattle.ocl_ast.specs.declared.units.Param.{Param}
 use Rattle.ocl_ast.specs.Trees.{FunctionTree}
-use Rattle.ocl_tokens.specs.declared.marks.Mark.{Mark}
 use Rattle.ocl_tokens.specs.declared.marks.Mark.TheVariants.{OpenParen, CloseParen, OpenBrace, Comma, Star}
 use Rattle.ocl_tokens.specs.declared.tokens.Token.{Token}
 use Rattle.ocl_tokens.specs.declared.tokens.TokenKind.{TokenKind}
@@ -22,21 +20,19 @@ use Rattle.ocl_parser.specs.Spellings.{Rest, given, one, mark, word, words, name
 use Rattle.ocl_parser.specs.Scalars.{scalar, scalar_words, scalar_elem, qualifiers}
 use Rattle.ocl_parser.specs.ScalarSteps.{scalar_first, scalar_more}
 use Rattle.ocl_parser.specs.Runs.{run, ended, go_on}
-use Rattle.ocl_parser.specs.Units.{IsSpaceWord, before_text, behind_text, is_constant, param_end_text, param_text, params_text, helper_words_text, IsKernelWord, head_text, end_text, unit_text}
+use Rattle.ocl_parser.specs.Units.{IsSpaceWord, behind_text, is_constant, param_end_text, param_text, params_text, helper_words_text, IsKernelWord, head_text, unit_text}
 use Rattle.ocl_parser.specs.StmtSteps.{StmtNext, GoesOn, Closes, Stops, stmt_step}
-use Rattle.ocl_parser.specs.UnitSteps.{UnitNext, Reads, Adds, Fails, gives_read, helper_word, helper_step, outside_step, kernel_step, head_step, gives_step, named_head, with_space, param_scalar, param_word, params_step, open_params, close_params, and_param, scalar_param, pointer_param, type_step, param_more, scalar_word_step, starred_step, named_step, brace_step, inside_step, unit_step}
+use Rattle.ocl_parser.specs.UnitSteps.{UnitNext, Reads, Adds, Fails, gives_read, helper_word, helper_step, outside_step, kernel_step, head_step, gives_step, named_head, with_space, param_scalar, param_word, params_step, open_params, close_params, scalar_param, pointer_param, type_step, param_more, scalar_word_step, starred_step, named_step, brace_step, inside_step, unit_step}
 use Rattle.ocl_parser.specs.declared.states.Head.{Head}
-use Rattle.ocl_parser.specs.declared.states.StmtFocus.{StmtFocus}
-use Rattle.ocl_parser.specs.declared.states.StmtFrame.{StmtFrame}
 use Rattle.ocl_parser.specs.declared.states.UnitFocus.{UnitFocus}
 use Rattle.ocl_parser.specs.declared.states.UnitFocus.TheVariants.{Outside, KernelRead, HelperWords, GivesRead, HeadRead, HeadNamed, ParamsOpen, VoidRead, ParamWords, ParamScalar, ParamType, Starred, ParamNamed, ParamsClosed, Inside, AtEnd}
 use Rattle.ocl_parser.proofs.Texts.{Leads, same, then, any, one_mono, words_mono, scalar_mono, after, taken}
 use Rattle.ocl_parser.proofs.ExprSound.{scalar_made, first_words, more_words, word_taken}
 use Rattle.ocl_parser.proofs.StmtTexts.{given_mono, qualifiers_mono}
 use Rattle.ocl_parser.proofs.ItemSound.{nothing, left, right, unqualified, const_last, volatile_last}
-use Rattle.ocl_parser.proofs.StmtFronts.{stmt_front, next_front}
+use Rattle.ocl_parser.proofs.StmtFronts.{next_front}
 use Rattle.ocl_parser.proofs.StmtSound.{stmt_reads}
-use Rattle.ocl_parser.proofs.UnitFronts.{functions_text, head_front, param_words, param_type, star_front, params_inside, after_params, params_front, unit_front, unit_next_front, before_mono, behind_mono, inside_mono, after_params_mono, params_mono, helper_mono, head_mono, head_front_mono, params_front_mono, functions_mono, functions_last, functions_end, params_last, params_comma, params_end, no_words, words_const, words_volatile, words_space, none_behind, behind_const, IsPointerWord, behind_other, IsHelperWord, helper_none, helper_last}
+use Rattle.ocl_parser.proofs.UnitFronts.{functions_text, head_front, param_words, param_type, star_front, params_inside, params_front, unit_front, unit_next_front, before_mono, behind_mono, inside_mono, after_params_mono, params_mono, helper_mono, head_mono, head_front_mono, params_front_mono, functions_mono, functions_last, functions_end, params_last, params_comma, params_end, no_words, words_const, words_volatile, words_space, none_behind, behind_const, IsPointerWord, behind_other, IsHelperWord, helper_none, helper_last}
 
 -- the words of a scalar type behind the words before it
 typed : (space : Option Space) (constant : Bool) (s : Scalar) (rest : Rest) →

@@ -37,12 +37,12 @@ BeginNoneWithin front = (behind : List Token) (fs : List FunctionTree) → Deriv
 abbrev pub BeginSomeWithin : List Token → Type 0
 BeginSomeWithin front = (behind : List Token) × (fs : List FunctionTree) × Derives (front ++ behind) fs × AreWithin fs
 
--- The fault of a token behind others.
+-- The fault of a token behind others. Want of memory is no fault of a token.
 abbrev pub IsFaultOf : ParseFault → List Token → Token → Type 0
 IsFaultOf (Unexpected pos) before t = (pos ≡ t.pos) × (is_left_out t.kind ≡ false) × BeginNoFile (before ++ (t ∷ []))
 IsFaultOf (Subset pos) before t = (pos ≡ t.pos) × (is_left_out t.kind ≡ true) × BeginNoFile (before ++ (t ∷ []))
 IsFaultOf (TooDeep pos) before t = (pos ≡ t.pos) × BeginSomeFile (before ++ (t ∷ [])) × BeginNoneWithin (before ++ (t ∷ []))
-IsFaultOf Memory before t = Unit {0}
+IsFaultOf Memory before t = ⊥
 
 -- One of the tokens has the fault, and the tokens before it go on to a file within the limits.
 pub record IsRefused (fault : ParseFault) (tokens : List Token) : Type 0 where
@@ -70,7 +70,7 @@ abbrev pub IsStop : ParseFault → Token → UnitNext → Type 0
 IsStop (Unexpected pos) t next = (pos ≡ t.pos) × (is_left_out t.kind ≡ false) × (next ≡ Fails)
 IsStop (Subset pos) t next = (pos ≡ t.pos) × (is_left_out t.kind ≡ true) × (next ≡ Fails)
 IsStop (TooDeep pos) t next = (pos ≡ t.pos) × IsCrowded next
-IsStop Memory t next = Unit {0}
+IsStop Memory t next = ⊥
 
 -- What a refusal says of the token alone.
 abbrev pub IsRefusalOf : ParseFault → Token → Type 0

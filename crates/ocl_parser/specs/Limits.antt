@@ -1,5 +1,5 @@
 -- The limits of a file: a function's body has at most 31 levels of statements, and each expression in it a height of at most 128.
-use Rattle.std.specs.Prelude.{ℕ, ◌≤◌, List, [], ◌∷◌, Option, Some, None}
+use Rattle.std.specs.Prelude.{◌≤◌, List, [], ◌∷◌, Option, Some, None}
 use Rattle.ocl_ast.specs.Trees.{ExprTree, ArgTrees, TargetTree, NameTarget, IndexTarget, StmtTree, DeclareTree, LocalArrayTree, AssignTree, CallStmtTree, BarrierTree, IfTree, IfElseTree, WhileTree, DoTree, ForTree, BreakTree, ContinueTree, ReturnTree, BlockTree, EmptyTree, StmtTrees, NoStmts, AndStmt, FunctionTree}
 use Rattle.ocl_ast.specs.Measures.{height, args_height, all_levels}
 

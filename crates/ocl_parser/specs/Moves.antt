@@ -1,5 +1,5 @@
 -- What the code answers for a token, together with the frames that it leaves.
-use Rattle.std.specs.Prelude.{ℕ, Bool, List, [], ◌∷◌, Option, Some, None}
+use Rattle.std.specs.Prelude.{ℕ, Bool, List, Option, Some, None}
 use Rattle.ocl_ast.specs.Trees.{ExprTree, StmtTree}
 use Rattle.ocl_ast.specs.Shapes.{function_tree}
 use Rattle.ocl_parser.specs.ExprSteps.{ExprNext, Goes, Ends, Refuses, Standing, standing, settled, closed_by}

@@ -1,6 +1,6 @@
 -- Texts of single tokens. A text is followed by something: `mark m rest` are the tokens that begin with the punctuator m and of
 -- which `rest` holds behind it. So the texts of a construct's parts stand one inside the other, in their order.
-use Rattle.std.specs.Prelude.{◌≡◌, ◌⊎◌, ℕ, Bool, true, List, [], ◌∷◌, Option, Some, None}
+use Rattle.std.specs.Prelude.{◌≡◌, ◌⊎◌, ℕ, Bool, List, [], ◌∷◌, Option, Some, None}
 use Rattle.vx_base.specs.declared.types.Pos.{Pos}
 use Rattle.ocl_ast.specs.declared.exprs.BinOp.{BinOp}
 use Rattle.ocl_ast.specs.declared.exprs.BinOp.TheVariants.{Mul, Div, Rem, Add, Sub, Shl, Shr, Lt, Gt, Le, Ge, Eq, Ne, And, Xor, Or}
@@ -10,7 +10,6 @@ use Rattle.ocl_ast.specs.declared.exprs.UnOp.TheVariants.{Plus as UnaryPlus, Min
 use Rattle.ocl_tokens.specs.declared.marks.Mark.{Mark}
 use Rattle.ocl_tokens.specs.declared.marks.Mark.TheVariants.{Tilde, Bang, Plus, Minus, Star, Slash, Percent, ShiftLeft, ShiftRight, Less, Greater, LessEqual, GreaterEqual, EqualEqual, BangEqual, Ampersand, Caret, Bar, PlusEqual, MinusEqual, StarEqual, SlashEqual, PercentEqual, ShiftLeftEqual, ShiftRightEqual, AmpersandEqual, CaretEqual, BarEqual}
 use Rattle.ocl_tokens.specs.declared.tokens.Token.{Token}
-use Rattle.ocl_tokens.specs.declared.tokens.TokenKind.{TokenKind}
 use Rattle.ocl_tokens.specs.declared.tokens.TokenKind.TheVariants.{Name as NameKind, Word as WordKind, Number as NumberKind, Mark as MarkKind}
 use Rattle.ocl_tokens.specs.declared.words.Word.{Word}
 

@@ -1,5 +1,5 @@
 -- Plain statements as lists of nodes behind their parts, by which a proof may store them in a model.
-use Rattle.std.specs.Prelude.{◌≡◌, ℕ, Bool, false, List, [], ◌∷◌, Option, refl}
+use Rattle.std.specs.Prelude.{◌≡◌, Bool, List, [], ◌∷◌, Option, refl}
 use Rattle.std.specs.Coded.{Coded, code_by}
 use Rattle.std.proofs.Common.{◌∙◌, ap}
 use Rattle.vx_base.specs.declared.types.Elem.{Elem}

@@ -1,13 +1,12 @@
 -- The texts of functions and files.
 use Rattle.std.specs.Prelude.{◌≡◌, ◌⊎◌, ◌||◌, Bool, true, false, List, [], ◌∷◌, Option, Some, None}
 use Rattle.vx_base.specs.declared.types.Elem.{Elem}
-use Rattle.vx_base.specs.declared.types.ParamKind.{ParamKind}
 use Rattle.vx_base.specs.declared.types.ParamKind.TheVariants.{Scalar, Pointer}
 use Rattle.vx_base.specs.declared.types.Space.{Space}
 use Rattle.ocl_ast.specs.declared.units.Gives.{Gives}
 use Rattle.ocl_ast.specs.declared.units.Gives.TheVariants.{Nothing, Value}
 use Rattle.ocl_ast.specs.declared.units.Param.{Param}
-use Rattle.ocl_ast.specs.Trees.{FunctionTree, StmtTrees}
+use Rattle.ocl_ast.specs.Trees.{FunctionTree}
 use Rattle.ocl_tokens.specs.declared.marks.Mark.TheVariants.{OpenParen, CloseParen, OpenBrace, CloseBrace, Comma, Star}
 use Rattle.ocl_tokens.specs.declared.tokens.Token.{Token}
 use Rattle.ocl_tokens.specs.declared.tokens.TokenKind.TheVariants.{Word as WordKind, End}

@@ -26,7 +26,10 @@ pub fn assign_end(
     match part {
         Part::InBlock => match kind {
             TokenKind::Mark(Mark::Semicolon) => Ok(StmtMove::On(StmtFocus::Finished(statement))),
-            _ => Ok(StmtMove::Refused),
+            _ => {
+                drop(statement);
+                Ok(StmtMove::Refused)
+            }
         },
         Part::InFirst(done) => assign_end_first(kind, done, statement),
         Part::InStep(first, test, done) => {
@@ -44,13 +47,19 @@ fn assign_end_first(
     ensures { IfOk result (λ next. (K : List StmtFrame) → stmt_next next K ≡ assign_end kind.now (Part.InFirst done) statement K) }
 {
     let mut done = done;
-    done.push(statement)?;
+    if let Err(memory) = done.push(statement) {
+        drop(done);
+        return Err(memory);
+    }
     match kind {
         TokenKind::Mark(Mark::Semicolon) => Ok(StmtMove::On(StmtFocus::TestStart(done))),
         TokenKind::Mark(Mark::Comma) => {
             Ok(StmtMove::On(StmtFocus::AssignNext(Part::InFirst(done))))
         }
-        _ => Ok(StmtMove::Refused),
+        _ => {
+            drop(done);
+            Ok(StmtMove::Refused)
+        }
     }
 }
 
@@ -66,7 +75,12 @@ fn assign_end_step(
     ensures { IfOk result (λ next. stmt_next next frames.new ≡ assign_end kind.now (Part.InStep first test done) statement frames.old) }
 {
     let mut done = done;
-    done.push(statement)?;
+    if let Err(memory) = done.push(statement) {
+        drop(first);
+        drop(test);
+        drop(done);
+        return Err(memory);
+    }
     match kind {
         TokenKind::Mark(Mark::CloseParen) => {
             frames.push(StmtFrame::For(first, test, done))?;
@@ -76,7 +90,12 @@ fn assign_end_step(
             let part = Part::InStep(first, test, done);
             Ok(StmtMove::On(StmtFocus::AssignNext(part)))
         }
-        _ => Ok(StmtMove::Refused),
+        _ => {
+            drop(first);
+            drop(test);
+            drop(done);
+            Ok(StmtMove::Refused)
+        }
     }
 }
 
@@ -86,7 +105,10 @@ pub fn counted_start(op: Option<AssignOp>, pos: Pos, part: Part) -> StmtMove
 {
     match op {
         Some(op) => StmtMove::On(StmtFocus::CountedBefore(part, op, pos)),
-        None => StmtMove::Refused,
+        None => {
+            drop(part);
+            StmtMove::Refused
+        }
     }
 }
 
@@ -100,12 +122,18 @@ pub fn assign_start(
     ensures { IfOk result (λ next. (K : List StmtFrame) → stmt_next next K ≡ assign_start kind.now pos part K) }
 {
     match kind {
-        TokenKind::Name(text) => {
-            let name = ident(alloc, text, pos)?;
-            Ok(StmtMove::On(StmtFocus::AssignNamed(part, name)))
-        }
+        TokenKind::Name(text) => match ident(alloc, text, pos) {
+            Ok(name) => Ok(StmtMove::On(StmtFocus::AssignNamed(part, name))),
+            Err(memory) => {
+                drop(part);
+                Err(memory)
+            }
+        },
         TokenKind::Mark(mark) => Ok(counted_start(count_of(*mark), pos, part)),
-        _ => Ok(StmtMove::Refused),
+        _ => {
+            drop(part);
+            Ok(StmtMove::Refused)
+        }
     }
 }
 
@@ -125,7 +153,11 @@ fn set_target(
             let inner = ExprFrames::new(alloc);
             StmtMove::On(StmtFocus::Reading(purpose, ExprFocus::Operand, inner))
         }
-        None => StmtMove::Refused,
+        None => {
+            drop(part);
+            drop(target);
+            StmtMove::Refused
+        }
     }
 }
 
@@ -161,7 +193,11 @@ pub fn target_step(
 {
     match kind {
         TokenKind::Mark(mark) => target_mark(alloc, count_of(*mark), *mark, pos, part, target),
-        _ => StmtMove::Refused,
+        _ => {
+            drop(part);
+            drop(target);
+            StmtMove::Refused
+        }
     }
 }
 
@@ -171,7 +207,11 @@ fn call_start(part: Part, name: Ident) -> StmtMove
 {
     match part {
         Part::InBlock => StmtMove::On(StmtFocus::CallOpen(name)),
-        Part::InFirst(_) | Part::InStep(..) => StmtMove::Refused,
+        Part::InFirst(_) | Part::InStep(..) => {
+            drop(part);
+            drop(name);
+            StmtMove::Refused
+        }
     }
 }
 
@@ -202,11 +242,17 @@ pub fn counted_before(
     ensures { IfOk result (λ next. (K : List StmtFrame) → stmt_next next K ≡ counted_before kind.now pos part op at K) }
 {
     match kind {
-        TokenKind::Name(text) => {
-            let name = ident(alloc, text, pos)?;
-            Ok(StmtMove::On(StmtFocus::CountedNamed(part, op, at, name)))
+        TokenKind::Name(text) => match ident(alloc, text, pos) {
+            Ok(name) => Ok(StmtMove::On(StmtFocus::CountedNamed(part, op, at, name))),
+            Err(memory) => {
+                drop(part);
+                Err(memory)
+            }
+        },
+        _ => {
+            drop(part);
+            Ok(StmtMove::Refused)
         }
-        _ => Ok(StmtMove::Refused),
     }
 }
 

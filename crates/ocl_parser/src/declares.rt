@@ -20,7 +20,10 @@ fn scalar_read(scalar: Option<Scalar>, part: Part, constant: bool) -> StmtMove
 {
     match scalar {
         Some(scalar) => StmtMove::On(StmtFocus::ScalarRead(part, constant, scalar)),
-        None => StmtMove::Refused,
+        None => {
+            drop(part);
+            StmtMove::Refused
+        }
     }
 }
 
@@ -41,7 +44,10 @@ pub fn qualified_step(kind: &TokenKind, part: Part, constant: bool) -> StmtMove
 {
     match kind {
         TokenKind::Word(word) => qualified_word(*word, part, constant),
-        _ => StmtMove::Refused,
+        _ => {
+            drop(part);
+            StmtMove::Refused
+        }
     }
 }
 
@@ -57,15 +63,21 @@ pub fn typed_step(
     ensures { IfOk result (λ next. (K : List StmtFrame) → stmt_next next K ≡ typed_step kind.now pos part elem constant K) }
 {
     match kind {
-        TokenKind::Name(text) => {
-            let name = ident(alloc, text, pos)?;
-            Ok(StmtMove::On(StmtFocus::Declared(part, elem, constant, name)))
-        }
+        TokenKind::Name(text) => match ident(alloc, text, pos) {
+            Ok(name) => Ok(StmtMove::On(StmtFocus::Declared(part, elem, constant, name))),
+            Err(memory) => {
+                drop(part);
+                Err(memory)
+            }
+        },
         TokenKind::Word(Word::Const) => Ok(StmtMove::On(StmtFocus::TypeRead(part, elem, true))),
         TokenKind::Word(Word::Volatile) => {
             Ok(StmtMove::On(StmtFocus::TypeRead(part, elem, constant)))
         }
-        _ => Ok(StmtMove::Refused),
+        _ => {
+            drop(part);
+            Ok(StmtMove::Refused)
+        }
     }
 }
 
@@ -92,13 +104,21 @@ pub fn scalar_step(
     ensures { IfOk result (λ next. (K : List StmtFrame) → stmt_next next K ≡ scalar_step kind.now pos part constant scalar K) }
 {
     match kind {
-        TokenKind::Name(text) => {
-            let name = ident(alloc, text, pos)?;
-            let elem = scalar_elem(scalar);
-            Ok(StmtMove::On(StmtFocus::Declared(part, elem, constant, name)))
-        }
+        TokenKind::Name(text) => match ident(alloc, text, pos) {
+            Ok(name) => {
+                let elem = scalar_elem(scalar);
+                Ok(StmtMove::On(StmtFocus::Declared(part, elem, constant, name)))
+            }
+            Err(memory) => {
+                drop(part);
+                Err(memory)
+            }
+        },
         TokenKind::Word(word) => Ok(scalar_word(*word, part, constant, scalar)),
-        _ => Ok(StmtMove::Refused),
+        _ => {
+            drop(part);
+            Ok(StmtMove::Refused)
+        }
     }
 }
 
@@ -114,11 +134,17 @@ pub fn name_step(
     ensures { IfOk result (λ next. (K : List StmtFrame) → stmt_next next K ≡ name_step kind.now pos part elem constant K) }
 {
     match kind {
-        TokenKind::Name(text) => {
-            let name = ident(alloc, text, pos)?;
-            Ok(StmtMove::On(StmtFocus::Declared(part, elem, constant, name)))
+        TokenKind::Name(text) => match ident(alloc, text, pos) {
+            Ok(name) => Ok(StmtMove::On(StmtFocus::Declared(part, elem, constant, name))),
+            Err(memory) => {
+                drop(part);
+                Err(memory)
+            }
+        },
+        _ => {
+            drop(part);
+            Ok(StmtMove::Refused)
         }
-        _ => Ok(StmtMove::Refused),
     }
 }
 
@@ -140,7 +166,11 @@ pub fn declared_end(
             let moved = declared_first(kind, done, elem, constant, statement)?;
             Ok(moved)
         }
-        Part::InStep(..) => Ok(StmtMove::Refused),
+        Part::InStep(..) => {
+            drop(part);
+            drop(statement);
+            Ok(StmtMove::Refused)
+        }
     }
 }
 
@@ -163,7 +193,10 @@ fn declared_item(
             frames.push_item(statement)?;
             Ok(StmtMove::On(StmtFocus::NameNext(Part::InBlock, elem, constant)))
         }
-        _ => Ok(StmtMove::Refused),
+        _ => {
+            drop(statement);
+            Ok(StmtMove::Refused)
+        }
     }
 }
 
@@ -178,14 +211,20 @@ fn declared_first(
     ensures { IfOk result (λ next. (K : List StmtFrame) → stmt_next next K ≡ declared_end kind.now (Part.InFirst done) elem constant statement K) }
 {
     let mut done = done;
-    done.push(statement)?;
+    if let Err(memory) = done.push(statement) {
+        drop(done);
+        return Err(memory);
+    }
     match kind {
         TokenKind::Mark(Mark::Semicolon) => Ok(StmtMove::On(StmtFocus::TestStart(done))),
         TokenKind::Mark(Mark::Comma) => {
             let part = Part::InFirst(done);
             Ok(StmtMove::On(StmtFocus::NameNext(part, elem, constant)))
         }
-        _ => Ok(StmtMove::Refused),
+        _ => {
+            drop(done);
+            Ok(StmtMove::Refused)
+        }
     }
 }
 

@@ -30,10 +30,22 @@ pub fn reading_step(
     ensures { IfOk result (λ next. stmt_next next frames.new ≡ reading_step kind.now purpose (expr_step kind.now pos focus inner) frames.old) }
 {
     let mut inner = inner;
-    match expr_step(alloc, kind, pos, focus, &mut inner)? {
-        ExprMove::On(focus) => Ok(StmtMove::On(StmtFocus::Reading(purpose, focus, inner))),
-        ExprMove::Ended(tree) => end_step(alloc, kind, purpose, tree, frames),
-        ExprMove::Refused => Ok(StmtMove::Refused),
+    match expr_step(alloc, kind, pos, focus, &mut inner) {
+        Ok(ExprMove::On(focus)) => Ok(StmtMove::On(StmtFocus::Reading(purpose, focus, inner))),
+        Ok(ExprMove::Ended(tree)) => {
+            drop(inner);
+            end_step(alloc, kind, purpose, tree, frames)
+        }
+        Ok(ExprMove::Refused) => {
+            drop(purpose);
+            drop(inner);
+            Ok(StmtMove::Refused)
+        }
+        Err(memory) => {
+            drop(purpose);
+            drop(inner);
+            Err(memory)
+        }
     }
 }
 
@@ -86,7 +98,10 @@ fn close_into(
             frames.push(frame)?;
             Ok(StmtMove::On(StmtFocus::BodyStart))
         }
-        _ => Ok(StmtMove::Refused),
+        _ => {
+            drop(frame);
+            Ok(StmtMove::Refused)
+        }
     }
 }
 
@@ -96,7 +111,10 @@ fn close_with(kind: &TokenKind, next: StmtFocus) -> StmtMove
 {
     match kind {
         TokenKind::Mark(Mark::CloseParen) => StmtMove::On(next),
-        _ => StmtMove::Refused,
+        _ => {
+            drop(next);
+            StmtMove::Refused
+        }
     }
 }
 
@@ -108,7 +126,11 @@ fn end_count(kind: &TokenKind, elem: Elem, name: Ident, count: Tree) -> StmtMove
         TokenKind::Mark(Mark::CloseBracket) => {
             StmtMove::On(StmtFocus::Ending(Statement::local_array(elem, name, count)))
         }
-        _ => StmtMove::Refused,
+        _ => {
+            drop(name);
+            drop(count);
+            StmtMove::Refused
+        }
     }
 }
 
@@ -121,7 +143,12 @@ fn end_index(kind: &TokenKind, part: Part, name: Ident, at: Pos, place: Tree) ->
             let target = Destination::index(name, place, at);
             StmtMove::On(StmtFocus::Targeted(part, target))
         }
-        _ => StmtMove::Refused,
+        _ => {
+            drop(part);
+            drop(name);
+            drop(place);
+            StmtMove::Refused
+        }
     }
 }
 
@@ -143,7 +170,12 @@ fn end_counted(
             let statement = Statement::assign(target, op, None, pos);
             StmtMove::On(StmtFocus::Assigned(part, statement))
         }
-        _ => StmtMove::Refused,
+        _ => {
+            drop(part);
+            drop(name);
+            drop(place);
+            StmtMove::Refused
+        }
     }
 }
 
@@ -158,7 +190,11 @@ fn end_args(
     ensures { IfOk result (λ next. (K : List StmtFrame) → stmt_next next K ≡ end_args kind.now name args arg K) }
 {
     let mut args = args;
-    args.push(arg)?;
+    if let Err(memory) = args.push(arg) {
+        drop(name);
+        drop(args);
+        return Err(memory);
+    }
     match kind {
         TokenKind::Mark(Mark::Comma) => {
             let purpose = Purpose::ArgsOf(name, args);
@@ -168,7 +204,11 @@ fn end_args(
         TokenKind::Mark(Mark::CloseParen) => {
             Ok(StmtMove::On(StmtFocus::Ending(Statement::call(name, args))))
         }
-        _ => Ok(StmtMove::Refused),
+        _ => {
+            drop(name);
+            drop(args);
+            Ok(StmtMove::Refused)
+        }
     }
 }
 
@@ -178,6 +218,10 @@ fn end_test(kind: &TokenKind, first: Statements, test: Tree) -> StmtMove
 {
     match kind {
         TokenKind::Mark(Mark::Semicolon) => StmtMove::On(StmtFocus::StepStart(first, Some(test))),
-        _ => StmtMove::Refused,
+        _ => {
+            drop(first);
+            drop(test);
+            StmtMove::Refused
+        }
     }
 }

@@ -227,8 +227,10 @@ fn close(alloc: Global, frame: ExprFrame, tree: Tree) -> Result<Tree, Memory>
         ExprFrame::Cast(elem, pos) => Tree::cast(alloc, elem, tree, pos),
         ExprFrame::Between(op, left, pos) => Tree::infix(alloc, op, left, tree, pos),
         ExprFrame::Other(test, one, pos) => Tree::choose(alloc, test, one, tree, pos),
-        ExprFrame::Test(..) | ExprFrame::Index(..) | ExprFrame::Call(..) | ExprFrame::Paren(..) =>
-            Ok(tree),
+        ExprFrame::Test(..) | ExprFrame::Index(..) | ExprFrame::Call(..) | ExprFrame::Paren(..) => {
+            drop(frame);
+            Ok(tree)
+        }
     }
 }
 
@@ -241,7 +243,8 @@ fn close_step(
 ) -> Result<ExprMove, Memory>
     ensures { IfOk result (λ next. expr_next next frames.new ≡ close_step kind.now tree frames.old) }
 {
-    match frames.pop() {
+    let innermost = frames.pop();
+    match innermost {
         None => Ok(ExprMove::Ended(tree)),
         Some(ExprFrame::Test(test, pos)) => close_test(kind, test, tree, pos, frames),
         Some(ExprFrame::Index(array, pos)) => close_index(alloc, kind, array, tree, pos),
@@ -250,7 +253,11 @@ fn close_step(
         Some(ExprFrame::Unary(..))
         | Some(ExprFrame::Cast(..))
         | Some(ExprFrame::Between(..))
-        | Some(ExprFrame::Other(..)) => Ok(ExprMove::Refused),
+        | Some(ExprFrame::Other(..)) => {
+            drop(innermost);
+            drop(tree);
+            Ok(ExprMove::Refused)
+        }
     }
 }
 
@@ -268,6 +275,8 @@ fn close_test(
         frames.push(ExprFrame::Other(test, one, pos))?;
         Ok(ExprMove::On(ExprFocus::Operand))
     } else {
+        drop(test);
+        drop(one);
         Ok(ExprMove::Refused)
     }
 }
@@ -286,6 +295,8 @@ fn close_index(
         let element = Tree::index(alloc, array, place, pos)?;
         Ok(ExprMove::On(ExprFocus::Done(element)))
     } else {
+        drop(array);
+        drop(place);
         Ok(ExprMove::Refused)
     }
 }
@@ -301,7 +312,11 @@ fn close_args(
     ensures { IfOk result (λ next. expr_next next frames.new ≡ close_args kind.now name args arg frames.old) }
 {
     let mut args = args;
-    args.push(arg)?;
+    if let Err(memory) = args.push(arg) {
+        drop(name);
+        drop(args);
+        return Err(memory);
+    }
     match kind {
         TokenKind::Mark(Mark::Comma) => {
             frames.push(ExprFrame::Call(name, args))?;
@@ -311,7 +326,11 @@ fn close_args(
             let call = Tree::call(name, args);
             Ok(ExprMove::On(ExprFocus::Done(call)))
         }
-        _ => Ok(ExprMove::Refused),
+        _ => {
+            drop(name);
+            drop(args);
+            Ok(ExprMove::Refused)
+        }
     }
 }
 
@@ -323,6 +342,7 @@ fn close_paren(alloc: Global, kind: &TokenKind, tree: Tree, pos: Pos) -> Result<
         let inside = Tree::paren(alloc, tree, pos)?;
         Ok(ExprMove::On(ExprFocus::Done(inside)))
     } else {
+        drop(tree);
         Ok(ExprMove::Refused)
     }
 }

@@ -26,9 +26,24 @@ fn begin_step(
     ensures { IfOk result (λ moved. (K : List StmtFrame) → stmt_next moved K ≡ begin_step kind.now pos purpose K) }
 {
     let mut inner = ExprFrames::new(alloc);
-    match operand_step(alloc, kind, pos, &mut inner)? {
-        ExprMove::On(focus) => Ok(StmtMove::On(StmtFocus::Reading(purpose, focus, inner))),
-        ExprMove::Ended(_) | ExprMove::Refused => Ok(StmtMove::Refused),
+    match operand_step(alloc, kind, pos, &mut inner) {
+        Ok(ExprMove::On(focus)) => Ok(StmtMove::On(StmtFocus::Reading(purpose, focus, inner))),
+        Ok(ExprMove::Ended(tree)) => {
+            drop(tree);
+            drop(purpose);
+            drop(inner);
+            Ok(StmtMove::Refused)
+        }
+        Ok(ExprMove::Refused) => {
+            drop(purpose);
+            drop(inner);
+            Ok(StmtMove::Refused)
+        }
+        Err(memory) => {
+            drop(purpose);
+            drop(inner);
+            Err(memory)
+        }
     }
 }
 
@@ -95,7 +110,10 @@ pub fn open_step(kind: &TokenKind, next: StmtFocus) -> StmtMove
 {
     match kind {
         TokenKind::Mark(Mark::OpenParen) => StmtMove::On(next),
-        _ => StmtMove::Refused,
+        _ => {
+            drop(next);
+            StmtMove::Refused
+        }
     }
 }
 
@@ -105,7 +123,10 @@ pub fn ending_step(kind: &TokenKind, statement: Statement) -> StmtMove
 {
     match kind {
         TokenKind::Mark(Mark::Semicolon) => StmtMove::On(StmtFocus::Finished(statement)),
-        _ => StmtMove::Refused,
+        _ => {
+            drop(statement);
+            StmtMove::Refused
+        }
     }
 }
 

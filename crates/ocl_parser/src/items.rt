@@ -1,7 +1,7 @@
 ghost use Rattle.std.specs.Prelude.{◌≡◌, ◌∷◌, List, IfOk};
 ghost use Rattle.ocl_parser.specs.declared.states.StmtFrame.{StmtFrame};
 ghost use Rattle.ocl_parser.specs.Moves.{stmt_next};
-ghost use Rattle.ocl_parser.specs.StmtSteps.{Stops, body_word, body_mark, body_step, close_block, close_items, item_scalar, item_word, item_step, finished, finished_step, placed_step, placed, completed, is_else, else_step, while_step};
+ghost use Rattle.ocl_parser.specs.StmtSteps.{body_word, body_mark, body_step, close_block, close_items, item_scalar, item_word, item_step, finished, finished_step, placed_step, placed, completed, is_else, else_step, while_step};
 
 use crate::assigns::counted_start;
 use crate::moves::StmtMove;
@@ -90,7 +90,10 @@ fn close_frame(frame: StmtFrame, frames: &StmtFrames) -> StmtMove
 {
     match frame {
         StmtFrame::Block(items) => close_items(frames.is_empty(), items),
-        _ => StmtMove::Refused,
+        _ => {
+            drop(frame);
+            StmtMove::Refused
+        }
     }
 }
 
@@ -199,11 +202,14 @@ fn complete(alloc: Global, frame: StmtFrame, statement: Statement) -> Result<Sta
         StmtFrame::For(first, test, step) => {
             Statement::for_loop(alloc, first, test, step, statement)
         }
-        StmtFrame::Do | StmtFrame::Block(_) => Ok(statement),
+        StmtFrame::Do | StmtFrame::Block(_) => {
+            drop(frame);
+            Ok(statement)
+        }
     }
 }
 
-/// A token behind a whole statement that the innermost frame waits for.
+/// A token behind a whole statement that the innermost frame waits for. The frames that a statement ends wait for none.
 fn placed_step(
     alloc: Global,
     kind: &TokenKind,
@@ -213,41 +219,25 @@ fn placed_step(
 ) -> Result<StmtMove, Memory>
     ensures { IfOk result (λ next. stmt_next next frames.new ≡ placed_step kind.now pos statement frames.old) }
 {
-    match frames.pop() {
+    let innermost = frames.pop();
+    match innermost {
         Some(StmtFrame::Then(test)) => else_step(is_else(kind), test, statement, frames),
         Some(StmtFrame::Do) => Ok(while_step(kind, statement)),
         Some(StmtFrame::Block(items)) => {
             let mut items = items;
-            items.push(statement)?;
+            if let Err(memory) = items.push(statement) {
+                drop(items);
+                return Err(memory);
+            }
             frames.push(StmtFrame::Block(items))?;
             item_step(alloc, kind, pos, frames)
         }
-        Some(StmtFrame::Else(test, one)) => Ok(refuse_behind(test, one)),
-        Some(StmtFrame::While(test)) => Ok(refuse_behind_while(test)),
-        Some(StmtFrame::For(first, test, step)) => Ok(refuse_behind_for(first, test, step)),
-        None => Ok(StmtMove::Refused),
+        Some(StmtFrame::Else(..)) | Some(StmtFrame::While(_)) | Some(StmtFrame::For(..)) | None => {
+            drop(innermost);
+            drop(statement);
+            Ok(StmtMove::Refused)
+        }
     }
-}
-
-/// The second statement of an `if` ends it, so nothing waits behind it.
-fn refuse_behind(_test: Tree, _one: Statement) -> StmtMove
-    ensures { (K : List StmtFrame) → stmt_next result K ≡ Stops }
-{
-    StmtMove::Refused
-}
-
-/// The body of a `while` ends it, so nothing waits behind it.
-fn refuse_behind_while(_test: Tree) -> StmtMove
-    ensures { (K : List StmtFrame) → stmt_next result K ≡ Stops }
-{
-    StmtMove::Refused
-}
-
-/// The body of a `for` ends it, so nothing waits behind it.
-fn refuse_behind_for(_first: Statements, _test: Option<Tree>, _step: Statements) -> StmtMove
-    ensures { (K : List StmtFrame) → stmt_next result K ≡ Stops }
-{
-    StmtMove::Refused
 }
 
 /// An `else` behind the first statement of an `if`.
@@ -263,6 +253,8 @@ fn else_step(
         frames.push(StmtFrame::Else(test, one))?;
         Ok(StmtMove::On(StmtFocus::BodyStart))
     } else {
+        drop(test);
+        drop(one);
         Ok(StmtMove::Refused)
     }
 }
@@ -273,6 +265,9 @@ fn while_step(kind: &TokenKind, body: Statement) -> StmtMove
 {
     match kind {
         TokenKind::Word(Word::While) => StmtMove::On(StmtFocus::DoWhile(body)),
-        _ => StmtMove::Refused,
+        _ => {
+            drop(body);
+            StmtMove::Refused
+        }
     }
 }

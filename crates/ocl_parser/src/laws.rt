@@ -8,12 +8,12 @@ ghost use Rattle.ocl_parser.specs.Units.{Derives};
 ghost use Rattle.ocl_parser.specs.declared.parsing.ParseFault.{ParseFault};
 ghost use Rattle.ocl_tokens.specs.declared.tokens.Token.{Token};
 
-/// Tokens are refused in one way, where memory suffices.
+/// Tokens are refused in one way.
 pub fn refused_once()
-    ensures { (tokens : List Token) (one other : ParseFault) → IsRefused one tokens → IsRefused other tokens → (one ≡ ParseFault.Memory → ⊥) → (other ≡ ParseFault.Memory → ⊥) → one ≡ other }
+    ensures { (tokens : List Token) (one other : ParseFault) → IsRefused one tokens → IsRefused other tokens → one ≡ other }
 {}
 
 /// Refused tokens are no text of a file within the limits.
 pub fn refused_none()
-    ensures { (tokens : List Token) (fault : ParseFault) → IsRefused fault tokens → (fault ≡ ParseFault.Memory → ⊥) → (fs : List FunctionTree) → Derives tokens fs → AreWithin fs → ⊥ }
+    ensures { (tokens : List Token) (fault : ParseFault) → IsRefused fault tokens → (fs : List FunctionTree) → Derives tokens fs → AreWithin fs → ⊥ }
 {}

@@ -18,24 +18,24 @@
 //! `proofs/UnitOrder.antt` that what is read derives from the tokens.
 #![tactic(auto)]
 
-pub mod assigns;
-pub mod declares;
-pub mod ends;
-pub mod expr_steps;
-pub mod heads;
-pub mod items;
+mod assigns;
+mod declares;
+mod ends;
+mod expr_steps;
+mod heads;
+mod items;
 pub mod laws;
-pub mod limits;
-pub mod moves;
-pub mod names;
-pub mod operators;
-pub mod params;
-pub mod parsing;
-pub mod scalars;
-pub mod stacks;
-pub mod states;
-pub mod stmt_steps;
-pub mod trees;
-pub mod unit_steps;
+mod limits;
+mod moves;
+mod names;
+mod operators;
+mod params;
+mod parsing;
+mod scalars;
+mod stacks;
+mod states;
+mod stmt_steps;
+mod trees;
+mod unit_steps;
 
 pub use parsing::{ParseFault, parse};

@@ -1,7 +1,7 @@
 ghost use Rattle.std.specs.Prelude.{◌≡◌, [], ◌++◌, ◌∷◌, IfOk, OnOk};
 ghost use Rattle.ocl_parser.specs.Moves.{unit_next};
 ghost use Rattle.ocl_parser.specs.Units.{is_constant};
-ghost use Rattle.ocl_parser.specs.UnitSteps.{open_params, close_params, params_step, param_word, with_space, param_scalar, and_param, scalar_param, pointer_param, type_step, param_more, scalar_word_step, starred_step, named_step};
+ghost use Rattle.ocl_parser.specs.UnitSteps.{Fails, open_params, close_params, params_step, param_word, with_space, param_scalar, and_param, scalar_param, pointer_param, type_step, param_more, scalar_word_step, starred_step, named_step};
 
 use crate::moves::UnitMove;
 use crate::names::ident;
@@ -11,6 +11,15 @@ use ocl_ast::{Param, ParamList};
 use ocl_tokens::{Mark, TokenKind, Word};
 use std::alloc::Global;
 use vx_base::{Elem, Memory, ParamKind, Pos, Space, Text};
+
+/// Refuses a token behind a function's head and parameters, and lets go of them.
+fn refuse(head: Head, params: ParamList) -> UnitMove
+    ensures { unit_next result ≡ Fails }
+{
+    drop(head);
+    drop(params);
+    UnitMove::Refused
+}
 
 /// A token behind the `(` of parameters.
 pub fn open_params(alloc: Global, kind: &TokenKind, head: Head) -> UnitMove
@@ -32,7 +41,7 @@ pub fn close_params(kind: &TokenKind, head: Head, params: ParamList) -> UnitMove
 {
     match kind {
         TokenKind::Mark(Mark::CloseParen) => { UnitMove::On(UnitFocus::ParamsClosed(head, params)) }
-        _ => UnitMove::Refused,
+        _ => refuse(head, params),
     }
 }
 
@@ -48,7 +57,7 @@ pub fn params_step(
 {
     match kind {
         TokenKind::Word(word) => param_word(*word, head, params, space, constant),
-        _ => UnitMove::Refused,
+        _ => refuse(head, params),
     }
 }
 
@@ -90,7 +99,7 @@ fn with_space(
 {
     match space {
         None => UnitMove::On(UnitFocus::ParamWords(head, params, Some(found), constant)),
-        Some(_) => UnitMove::Refused,
+        Some(_) => refuse(head, params),
     }
 }
 
@@ -108,7 +117,7 @@ fn param_scalar(
         Some(scalar) => {
             UnitMove::On(UnitFocus::ParamScalar(head, params, space, constant, scalar))
         }
-        None => UnitMove::Refused,
+        None => refuse(head, params),
     }
 }
 
@@ -148,17 +157,17 @@ fn scalar_param(
     match space {
         None => {
             let mut params = params;
-            push_param(
-                alloc,
-                &mut params,
-                text,
-                pos,
-                ParamKind::Scalar(elem),
-                constant,
-            )?;
-            Ok(UnitMove::On(UnitFocus::ParamNamed(head, params)))
+            let kind = ParamKind::Scalar(elem);
+            match push_param(alloc, &mut params, text, pos, kind, constant) {
+                Ok(()) => Ok(UnitMove::On(UnitFocus::ParamNamed(head, params))),
+                Err(memory) => {
+                    drop(head);
+                    drop(params);
+                    Err(memory)
+                }
+            }
         }
-        Some(_) => Ok(UnitMove::Refused),
+        Some(_) => Ok(refuse(head, params)),
     }
 }
 
@@ -173,7 +182,7 @@ fn pointer_param(
     ensures { unit_next result ≡ pointer_param space head params constant elem }
 {
     match space {
-        None => UnitMove::Refused,
+        None => refuse(head, params),
         Some(space) => {
             let readonly = constant || is_constant(space);
             let kind = ParamKind::Pointer {
@@ -220,7 +229,7 @@ pub fn type_step(
         TokenKind::Word(Word::Volatile) => {
             Ok(UnitMove::On(UnitFocus::ParamType(head, params, space, constant, elem)))
         }
-        _ => Ok(UnitMove::Refused),
+        _ => Ok(refuse(head, params)),
     }
 }
 
@@ -301,8 +310,14 @@ pub fn starred_step(
     match kind {
         TokenKind::Name(text) => {
             let mut params = params;
-            push_param(alloc, &mut params, text, pos, pointer, constant)?;
-            Ok(UnitMove::On(UnitFocus::ParamNamed(head, params)))
+            match push_param(alloc, &mut params, text, pos, pointer, constant) {
+                Ok(()) => Ok(UnitMove::On(UnitFocus::ParamNamed(head, params))),
+                Err(memory) => {
+                    drop(head);
+                    drop(params);
+                    Err(memory)
+                }
+            }
         }
         TokenKind::Word(Word::Const) => {
             Ok(UnitMove::On(UnitFocus::Starred(head, params, pointer, true)))
@@ -310,7 +325,7 @@ pub fn starred_step(
         TokenKind::Word(Word::Restrict) | TokenKind::Word(Word::Volatile) => {
             Ok(UnitMove::On(UnitFocus::Starred(head, params, pointer, constant)))
         }
-        _ => Ok(UnitMove::Refused),
+        _ => Ok(refuse(head, params)),
     }
 }
 
@@ -323,6 +338,6 @@ pub fn named_step(kind: &TokenKind, head: Head, params: ParamList) -> UnitMove
             UnitMove::On(UnitFocus::ParamWords(head, params, None, false))
         }
         TokenKind::Mark(Mark::CloseParen) => { UnitMove::On(UnitFocus::ParamsClosed(head, params)) }
-        _ => UnitMove::Refused,
+        _ => refuse(head, params),
     }
 }

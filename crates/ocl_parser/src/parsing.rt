@@ -1,4 +1,4 @@
-ghost use Rattle.std.specs.Prelude.{◌≡◌, ◌≤◌, [], List, Some, None, map, length, if◌then◌else◌, IfOk, IfErr};
+ghost use Rattle.std.specs.Prelude.{◌≡◌, ◌⊎◌, ◌≤◌, [], List, Some, None, map, length, if◌then◌else◌, IfOk, IfErr};
 ghost use Rattle.ocl_tokens.specs.declared.tokens.Token.{Token};
 ghost use Rattle.ocl_ast.specs.Shapes.{function_tree, unit_trees};
 ghost use Rattle.ocl_ast.specs.Trees.{FunctionTree};
@@ -16,18 +16,23 @@ use crate::unit_steps::unit_step;
 use ocl_ast::{FunctionList, Unit};
 use ocl_tokens::{Token, TokenKind, Tokens, Word};
 use std::alloc::Global;
+use thiserror::Error;
 use vx_base::Pos;
 
 /// Why tokens are refused, with the place of the first token behind which no file within the limits goes on.
-#[derive(Clone, Copy, Debug, PartialEq, Eq)]
+#[derive(Clone, Copy, Debug, PartialEq, Eq, Error)]
 pub enum ParseFault {
     /// No file goes on with the token.
+    #[error("{0}: no file goes on with this token")]
     Unexpected(Pos),
     /// No file goes on with the token, which stands for what the language leaves out.
+    #[error("{0}: this word is not in the subset of the language")]
     Subset(Pos),
     /// Files that go on with the token have more than 31 levels of statements, or an expression higher than 128.
+    #[error("{0}: more than 31 levels of statements, or an expression higher than 128")]
     TooDeep(Pos),
     /// Memory ran out.
+    #[error("memory ran out")]
     Memory,
 }
 
@@ -38,7 +43,7 @@ pub fn parse(alloc: Global, tokens: &Tokens) -> Result<Unit, ParseFault>
     ensures alone { IfOk result (λ unit. (fs : List FunctionTree) → Derives tokens.now fs → unit_trees unit ≡ fs) }
     ensures few { IfOk result (λ unit. length unit.functions ≤ length tokens.now) }
     ensures within { IfOk result (λ unit. AreWithin (unit_trees unit)) }
-    ensures refused { IfErr result (λ fault. AreEnded tokens.now → IsRefused fault tokens.now) }
+    ensures refused { IfErr result (λ fault. (fault ≡ ParseFault.Memory) ⊎ (AreEnded tokens.now → IsRefused fault tokens.now)) }
     ensures read { IfErr result (λ fault. (fs : List FunctionTree) → Derives tokens.now fs → AreWithin fs → fault ≡ ParseFault.Memory) }
 {
     let functions = read_all(alloc, tokens.as_slice())?;
@@ -56,7 +61,7 @@ pub fn functions_are_few()
 fn read_all(alloc: Global, tokens: &[Token]) -> Result<FunctionList, ParseFault>
     ensures functions { IfOk result (λ functions. run UnitFocus.Outside [] tokens.now ≡ Some (map function_tree functions)) }
     ensures within { IfOk result (λ functions. AreWithin (map function_tree functions)) }
-    ensures refused { IfErr result (λ fault. AreEnded tokens.now → IsRefused fault tokens.now) }
+    ensures refused { IfErr result (λ fault. (fault ≡ ParseFault.Memory) ⊎ (AreEnded tokens.now → IsRefused fault tokens.now)) }
     ensures read { IfErr result (λ fault. (fs : List FunctionTree) → Derives tokens.now fs → AreWithin fs → fault ≡ ParseFault.Memory) }
 {
     let mut functions = FunctionList {
@@ -68,12 +73,18 @@ fn read_all(alloc: Global, tokens: &[Token]) -> Result<FunctionList, ParseFault>
         last = token.pos;
         match read_token(alloc, token, focus, &mut functions) {
             Ok(next) => focus = next,
-            Err(fault) => return Err(fault),
+            Err(fault) => {
+                drop(functions);
+                return Err(fault);
+            }
         }
     }
     if is_ended(&focus) {
+        drop(focus);
         Ok(functions)
     } else {
+        drop(focus);
+        drop(functions);
         Err(ParseFault::Unexpected(last))
     }
 }
@@ -98,7 +109,7 @@ fn read_token(
 ) -> Result<UnitFocus, ParseFault>
     ensures goes { IfOk result (λ next. IsStep (unit_step token.now.kind token.now.pos focus) next (map function_tree functions.old) (map function_tree functions.new)) }
     ensures room { IfOk result (λ next. HasRoom next) }
-    ensures stops { IfErr result (λ fault. IsStop fault token.now (unit_step token.now.kind token.now.pos focus)) }
+    ensures stops { IfErr result (λ fault. (fault ≡ ParseFault.Memory) ⊎ IsStop fault token.now (unit_step token.now.kind token.now.pos focus)) }
 {
     match unit_step(alloc, &token.kind, token.pos, focus) {
         Err(_memory) => Err(ParseFault::Memory),
@@ -111,6 +122,7 @@ fn read_token(
             if is_within(&next) {
                 Ok(next)
             } else {
+                drop(next);
                 Err(ParseFault::TooDeep(token.pos))
             }
         }

@@ -218,11 +218,22 @@ impl StmtFrames {
         match self.pop() {
             Some(StmtFrame::Block(items)) => {
                 let mut items = items;
-                items.push(item)?;
-                self.push(StmtFrame::Block(items))
+                match items.push(item) {
+                    Ok(()) => self.push(StmtFrame::Block(items)),
+                    Err(memory) => {
+                        drop(items);
+                        Err(memory)
+                    }
+                }
             }
-            Some(other) => self.push(other),
-            None => Ok(()),
+            Some(other) => {
+                drop(item);
+                self.push(other)
+            }
+            None => {
+                drop(item);
+                Ok(())
+            }
         }
     }
 }

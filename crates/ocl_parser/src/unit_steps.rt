@@ -156,7 +156,10 @@ fn named_head(kind: &TokenKind, head: Head) -> UnitMove
 {
     match kind {
         TokenKind::Mark(Mark::OpenParen) => UnitMove::On(UnitFocus::ParamsOpen(head)),
-        _ => UnitMove::Refused,
+        _ => {
+            drop(head);
+            UnitMove::Refused
+        }
     }
 }
 
@@ -172,10 +175,24 @@ fn brace_step(
     match kind {
         TokenKind::Mark(Mark::OpenBrace) => {
             let mut frames = StmtFrames::new(alloc);
-            frames.push(StmtFrame::Block(Statements::new(alloc)))?;
-            Ok(UnitMove::On(UnitFocus::Inside(head, params, StmtFocus::ItemStart, frames)))
+            match frames.push(StmtFrame::Block(Statements::new(alloc))) {
+                Ok(()) => {
+                    let focus = StmtFocus::ItemStart;
+                    Ok(UnitMove::On(UnitFocus::Inside(head, params, focus, frames)))
+                }
+                Err(memory) => {
+                    drop(head);
+                    drop(params);
+                    drop(frames);
+                    Err(memory)
+                }
+            }
         }
-        _ => Ok(UnitMove::Refused),
+        _ => {
+            drop(head);
+            drop(params);
+            Ok(UnitMove::Refused)
+        }
     }
 }
 
@@ -192,10 +209,24 @@ fn inside_step(
     ensures { IfOk result (λ next. unit_next next ≡ inside_step (stmt_step kind.now pos focus frames) head params) }
 {
     let mut frames = frames;
-    match stmt_step(alloc, kind, pos, focus, &mut frames)? {
-        StmtMove::On(focus) => Ok(UnitMove::On(UnitFocus::Inside(head, params, focus, frames))),
-        StmtMove::Closed(body) => Ok(UnitMove::Added(function_of(head, params, body))),
-        StmtMove::Refused => Ok(UnitMove::Refused),
+    match stmt_step(alloc, kind, pos, focus, &mut frames) {
+        Ok(StmtMove::On(focus)) => Ok(UnitMove::On(UnitFocus::Inside(head, params, focus, frames))),
+        Ok(StmtMove::Closed(body)) => {
+            drop(frames);
+            Ok(UnitMove::Added(function_of(head, params, body)))
+        }
+        Ok(StmtMove::Refused) => {
+            drop(head);
+            drop(params);
+            drop(frames);
+            Ok(UnitMove::Refused)
+        }
+        Err(memory) => {
+            drop(head);
+            drop(params);
+            drop(frames);
+            Err(memory)
+        }
     }
 }
 

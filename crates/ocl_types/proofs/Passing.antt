@@ -1,12 +1,13 @@
 -- The first fault of functions that are gone through one by one.
-use Rattle.std.proofs.Common.{◌≡◌, ℕ, zero, suc, ◌+◌, ◌-◌, ◌^◌, ◌<◌, ◌≤◌, Bool, true, false, ◌||◌, if◌then◌else◌, nat_lt, min, List, [], ◌∷◌, map, length, drop, get_or, Option, None, Some, Result, Ok, Err, refl, sym, ap, subst, ◌∙◌, arith}
+use Rattle.std.proofs.Common.{◌≡◌, ℕ, zero, suc, ◌+◌, ◌-◌, ◌^◌, ◌<◌, ◌≤◌, Bool, true, false, ◌||◌, if◌then◌else◌, nat_lt, min, List, [], ◌∷◌, map, length, drop, get_or, slice_get, Option, None, Some, option_map, Result, Ok, Err, refl, sym, ap, subst, ◌∙◌, arith}
 use Rattle.std.proofs.lemmas.Bool.Decides.{nat_tests}
 use Rattle.std.proofs.lemmas.List.{length-map}
+use Rattle.std.proofs.lemmas.Option.{slice_get-map}
 use Rattle.ocl_program.specs.Measures.{cut, measured, own_variables, own_nodes, own_control, own_calls}
 use Rattle.ocl_program.specs.Nodes.{FunctionNode}
 use Rattle.ocl_program.specs.Shapes.{function_node}
 use Rattle.ocl_program.specs.declared.functions.TypedFunction.{TypedFunction}
-use Rattle.ocl_measures.specs.Recursion.{is_recursive}
+use Rattle.ocl_measures.specs.Recursion.{IsFirstRecursive, NoneRecursive, is_recursive}
 use Rattle.ocl_measures.specs.Totals.{AreTotals, variables_of, nodes_of, control_of, calls_of}
 use Rattle.ocl_measures.specs.declared.sizes.Totals.{Totals}
 use Rattle.ocl_types.specs.declared.faults.Counted.TheVariants.{Variables, Nodes}
@@ -36,11 +37,41 @@ pub none_fails : (fault : ℕ → FunctionNode → Option TypeFault) (fs : List 
     length fs ≤ k → each_from fault k (drop k (map function_node fs)) ≡ whole → whole ≡ Ok tt
 none_fails fault fs k whole past known = sym known ∙ ap (each_from fault k) (none_left function_node fs k past)
 
-pub not_recursive : (program : List FunctionNode) (k : ℕ) (f : FunctionNode) → is_recursive program k ≡ false → recursion_of program k f ≡ None
+not_recursive : (program : List FunctionNode) (k : ℕ) (f : FunctionNode) → is_recursive program k ≡ false → recursion_of program k f ≡ None
 not_recursive program k f is = ap (λ (b : Bool). if b then Some (Recursive f.name.pos) else None) is
 
-pub is_recursive_there : (program : List FunctionNode) (k : ℕ) (f : FunctionNode) → is_recursive program k ≡ true → recursion_of program k f ≡ Some (Recursive f.name.pos)
+is_recursive_there : (program : List FunctionNode) (k : ℕ) (f : FunctionNode) → is_recursive program k ≡ true → recursion_of program k f ≡ Some (Recursive f.name.pos)
 is_recursive_there program k f is = ap (λ (b : Bool). if b then Some (Recursive f.name.pos) else None) is
+
+none_from : (program : List FunctionNode) → NoneRecursive program → (j : ℕ) (fs : List FunctionNode) → each_from (recursion_of program) j fs ≡ Ok tt
+none_from program none j [] = refl
+none_from program none j (f ∷ more) =
+    ap (λ (r : Option TypeFault). unless_fault r (each_from (recursion_of program) (j + 1) more)) (not_recursive program j f (none j)) ∙ none_from program none (j + 1) more
+
+-- where no function reaches itself there is no fault
+pub none_recursive : (program : List FunctionNode) → NoneRecursive program → each_from (recursion_of program) 0 program ≡ Ok tt
+none_recursive program none = none_from program none 0 program
+
+first_from : (program : List FunctionNode) (j i : ℕ) (fs : List FunctionNode) (f : FunctionNode) → ((k : ℕ) → k < j + i → is_recursive program k ≡ false) → is_recursive program (j + i) ≡ true
+    → slice_get fs i ≡ Some f → each_from (recursion_of program) j fs ≡ Err (Recursive f.name.pos)
+first_from program j i [] f before here there = cc
+first_from program j zero (g ∷ more) f before here there =
+    let at : j + 0 ≡ j = omega arith in
+    let same : g ≡ f = cc in
+    ap (λ (r : Option TypeFault). unless_fault r (each_from (recursion_of program) (j + 1) more)) (is_recursive_there program j g (sym (ap (is_recursive program) at) ∙ here))
+    ∙ ap (λ (h : FunctionNode). Err (Recursive h.name.pos)) same
+first_from program j (suc i) (g ∷ more) f before here there =
+    let at : j + suc i ≡ (j + 1) + i = omega arith in
+    ap (λ (r : Option TypeFault). unless_fault r (each_from (recursion_of program) (j + 1) more)) (not_recursive program j g (before j (omega arith)))
+    ∙ first_from program (j + 1) i more f (λ k below. before k (omega arith)) (sym (ap (is_recursive program) at) ∙ here) there
+
+-- the first function that reaches itself has the fault
+pub one_recursive : (fs : List TypedFunction) (k : ℕ) (f : TypedFunction) → IsFirstRecursive (map function_node fs) k → slice_get fs k ≡ Some f
+    → each_from (recursion_of (map function_node fs)) 0 (map function_node fs) ≡ Err (Recursive f.name.pos)
+one_recursive fs k f first there =
+    let at : k ≡ 0 + k = omega arith in
+    first_from (map function_node fs) 0 k (map function_node fs) (function_node f) (λ j below. first.none_before j (omega arith))
+    (subst (λ i. is_recursive (map function_node fs) i ≡ true) at first.here.calls) (slice_get-map function_node fs k ∙ ap (option_map function_node) there)
 
 -- a limit is passed exactly where it is passed up to the cut
 over_limit : (limit n : ℕ) → limit < 2 ^ 32 - 1 → nat_lt limit (cut n) ≡ nat_lt limit n

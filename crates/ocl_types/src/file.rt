@@ -11,10 +11,10 @@ ghost use Rattle.ocl_types.specs.declared.faults.TypeFault.TheVariants as fault;
 
 use crate::bodies::TypedBody;
 use crate::faults::TypeFault;
-use crate::limits::{check_kernels, check_params, check_recursion};
+use crate::limits::{check_kernels, check_params, known_totals};
 use ocl_ast::Function;
-use ocl_measures::rounds::{all_totals, totals_at};
 use ocl_measures::sizes::Totals;
+use ocl_measures::totals::totals_at;
 use ocl_program::{CallSite, TypedFunction};
 use std::alloc::{AllocError, Global};
 
@@ -138,9 +138,8 @@ pub fn limited_totals(alloc: Global, functions: &[TypedFunction]) -> Result<Vec<
     requires { length functions.now < 2 ^ 32 }
     ensures { TotalsTo result (map function_node functions.now) (within_limits (map function_node functions.now)) }
 {
-    check_recursion(alloc, functions)?;
+    let totals = known_totals(alloc, functions)?;
     check_params(functions)?;
-    let totals = all_totals(alloc, functions)?;
     check_kernels(functions, totals.as_slice())?;
     Ok(totals)
 }

@@ -1,12 +1,13 @@
 //! The typing of kernel files: which files have a program, and which one.
 //!
 //! `specs/Names.antt` says what a name stands for, `specs/Exprs.antt` and `specs/Stmts.antt` type expressions and
-//! statements, and `specs/Functions.antt` the functions of a file with their limits.
+//! statements, and `specs/Functions.antt` the functions of a file with their limits. These are the crate's statement;
+//! `Answers`, `Results` and `Tables` retell what its parts give, for the proof.
 #![tactic(auto)]
 
 pub mod args;
 pub mod bodies;
-pub mod builtins;
+mod builtins;
 pub mod calls;
 pub mod changes;
 pub mod counts;
@@ -14,8 +15,8 @@ pub mod exprs;
 pub mod faults;
 pub mod file;
 pub mod functions;
-pub mod kinds;
-pub mod limits;
+mod kinds;
+mod limits;
 pub mod names;
 pub mod parts;
 pub mod programs;

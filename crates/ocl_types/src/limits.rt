@@ -1,15 +1,16 @@
 //! What the functions of a program may not be: recursive, or too large.
-ghost use Rattle.std.specs.Prelude.{◌≡◌, ℕ, ◌<◌, ◌^◌, None, if◌then◌else◌, length, map};
+ghost use Rattle.std.specs.Prelude.{◌≡◌, ℕ, ◌<◌, ◌^◌, Err, None, if◌then◌else◌, length, map};
 ghost use Rattle.ocl_program.specs.Measures.{cut};
 ghost use Rattle.ocl_program.specs.Shapes.{function_node};
+ghost use Rattle.ocl_measures.specs.Recursion.{IsFirstRecursive};
 ghost use Rattle.ocl_measures.specs.Totals.{AreTotals};
-ghost use Rattle.ocl_types.specs.Results.{PassesTo};
+ghost use Rattle.ocl_types.specs.Results.{PassesTo, TotalsTo};
 ghost use Rattle.ocl_types.specs.Functions.{each_from, kernel_fault as kernel_fault_of, params_fault as params_fault_of, recursion_of, sized_fault};
 
 use crate::faults::{Counted, TypeFault};
-use ocl_measures::recursion::is_recursive;
-use ocl_measures::rounds::totals_at;
+use ocl_measures::search::{AllTotals, all_totals};
 use ocl_measures::sizes::Totals;
+use ocl_measures::totals::totals_at;
 use ocl_program::TypedFunction;
 use std::alloc::Global;
 
@@ -33,23 +34,25 @@ fn kept(count: usize) -> u32
     u32::try_from(count).unwrap_or(u32::MAX)
 }
 
-/// The fault of the first function that can reach a call of itself.
-#[tactic(auto, using(crate::proofs::Passing::passes, crate::proofs::Passing::fails, crate::proofs::Passing::none_fails, crate::proofs::Passing::not_recursive, crate::proofs::Passing::is_recursive_there))]
-pub fn check_recursion(alloc: Global, functions: &[TypedFunction]) -> Result<(), TypeFault>
-    requires { length functions.now < 2 ^ 32 }
-    ensures { PassesTo result (each_from (recursion_of (map function_node functions.now)) 0 (map function_node functions.now)) }
+/// The fault of a function that can reach a call of itself.
+fn recursion_fault(functions: &[TypedFunction], function: u32) -> TypeFault
+    requires { IsFirstRecursive (map function_node functions.now) function }
+    ensures { each_from (recursion_of (map function_node functions.now)) 0 (map function_node functions.now) ≡ Err result }
 {
-    for (number, function) in functions.iter().enumerate() {
-        match is_recursive(alloc, functions, number as u32) {
-            Ok(found) => {
-                if found {
-                    return Err(TypeFault::Recursive(function.name.pos));
-                }
-            }
-            Err(_full) => return Err(TypeFault::Memory),
-        }
+    let place = function as usize;
+    TypeFault::Recursive(functions[place].name.pos)
+}
+
+/// The totals of functions of which none can reach a call of itself, or the fault of the first that can.
+#[tactic(auto, using(crate::proofs::Passing::none_recursive))]
+pub fn known_totals(alloc: Global, functions: &[TypedFunction]) -> Result<Vec<Totals>, TypeFault>
+    requires { length functions.now < 2 ^ 32 }
+    ensures { TotalsTo result (map function_node functions.now) (each_from (recursion_of (map function_node functions.now)) 0 (map function_node functions.now)) }
+{
+    match all_totals(alloc, functions)? {
+        AllTotals::Known(totals) => Ok(totals),
+        AllTotals::Recursive(function) => Err(recursion_fault(functions, function)),
     }
-    Ok(())
 }
 
 /// The fault of a function with too many parameters.

@@ -7,8 +7,8 @@ ghost use Rattle.ocl_measures.specs.Totals.{AreTotals};
 ghost use Rattle.ocl_types.specs.Functions.{IsProgram, kernel_from};
 
 use ocl_ast::ParamList;
-use ocl_measures::rounds::totals_at;
 use ocl_measures::sizes::Totals;
+use ocl_measures::totals::totals_at;
 use ocl_program::{Measures, TypedFunction};
 
 /// A file whose names are resolved and whose types are known, and which is within the limits.

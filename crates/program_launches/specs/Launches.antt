@@ -2,28 +2,18 @@
 use Rattle.std.specs.Prelude.{◌≡◌, ℕ, ◌*◌, ◌≤◌, Bool, true, false, not, ◌&&◌, ◌||◌, nat_eq, if◌then◌else◌, List, [], ◌∷◌, slice_index}
 use Rattle.vx_base.specs.Values.{elem_bytes}
 use Rattle.item_acts.specs.declared.acts.Bound.{Bound}
-use Rattle.item_acts.specs.declared.acts.Range.{Range}
 use Rattle.item_acts.specs.Launches.{Launch}
 use Rattle.ocl_ast.specs.declared.units.Param.{Param}
 use Rattle.ocl_program.specs.declared.exprs.ArrayRef.{ArrayRef}
 use Rattle.item_settings.specs.declared.arrays.ItemArray.{ItemArray}
-use Rattle.item_settings.specs.Settings.{bound_array, group_size, size_in}
+use Rattle.item_settings.specs.Settings.{bound_array}
+use Rattle.ocl_launch.specs.Launches.{kernel_launch}
 use Rattle.ocl_sem.specs.Settings.{array_of}
-use Rattle.ocl_sem.specs.Launched.{Launched, launched_asks}
-
--- how many items a range has
-abbrev pub items_in : Range → ℕ
-items_in range = size_in range range.global 0 * size_in range range.global 1 * size_in range range.global 2
+use Rattle.ocl_sem.specs.Launched.{Launched}
 
 -- the launch of a kernel over buffers of so many bytes, where each group has local arrays of so many
 abbrev pub launch_over : Launched → List ℕ → List ℕ → Launch
-launch_over launched buffers locals = record {
-  items = items_in launched.range;
-  local = group_size launched.range;
-  asks = launched_asks launched;
-  buffers = buffers;
-  locals = locals;
-}
+launch_over launched buffers locals = kernel_launch launched.program launched.kernel launched.range launched.bounds buffers locals
 
 -- the array that the kernel of a launch names so
 abbrev pub array_named : Launched → ArrayRef → ItemArray

@@ -51,12 +51,10 @@ pub bad_tokens : (bytes : List ℕ) (fault : LexFault) → (fault ≡ lex.Memory
 bad_tokens bytes fault (inl e) = inl (ap lex_fault e)
 bad_tokens bytes fault (inr e) = inr (BadTokens fault e)
 
-pub bad_tree : (tokens : List Token) (fault : ParseFault) → IsRefused fault tokens
+pub bad_tree : (tokens : List Token) (fault : ParseFault) → AreEnded tokens → (fault ≡ parse.Memory) ⊎ (AreEnded tokens → IsRefused fault tokens)
     → (parse_fault fault ≡ no_memory) ⊎ ((bytes : List ℕ) → tokens_of bytes ≡ Ok tokens → FrontOf bytes (Err (parse_fault fault)))
-bad_tree tokens (parse.Unexpected pos) refused = inr (λ bytes lexed. BadTree tokens (parse.Unexpected pos) lexed (λ e. absurd cc) refused)
-bad_tree tokens (parse.Subset pos) refused = inr (λ bytes lexed. BadTree tokens (parse.Subset pos) lexed (λ e. absurd cc) refused)
-bad_tree tokens (parse.TooDeep pos) refused = inr (λ bytes lexed. BadTree tokens (parse.TooDeep pos) lexed (λ e. absurd cc) refused)
-bad_tree tokens parse.Memory refused = inl refl
+bad_tree tokens fault ended (inl e) = inl (ap parse_fault e)
+bad_tree tokens fault ended (inr refused) = inr (λ bytes lexed. BadTree tokens fault lexed (refused ended))
 
 pub bad_types : (functions : List FunctionTree) (fault : TypeFault) → (fault ≡ types.Memory) ⊎ (program_of functions ≡ Err fault)
     → (type_fault fault ≡ no_memory) ⊎ ((bytes : List ℕ) → Reads bytes functions → FrontOf bytes (Err (type_fault fault)))

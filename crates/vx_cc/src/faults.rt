@@ -1,5 +1,6 @@
 use ocl_types::Counted;
 use std::fmt;
+use thiserror::Error;
 use vx_base::Pos;
 
 /// Why a source file is refused: a kernel file, an assembly text or a text of words.
@@ -58,7 +59,8 @@ pub enum SourceKind {
 }
 
 /// Why a source file is refused, and where.
-#[derive(Clone, Copy, Debug, PartialEq, Eq)]
+#[derive(Clone, Copy, Debug, PartialEq, Eq, Error)]
+#[error("{pos}: {kind}")]
 pub struct SourceFault {
     /// The place of the fault; 1:1 where memory ran out.
     pub pos: Pos,

@@ -1,3 +1,4 @@
+pub mod PrintedLengths
 pub mod PrintedLines
 pub mod PrintedNumbers
 pub mod PrintedParts

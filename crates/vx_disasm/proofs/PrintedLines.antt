@@ -151,7 +151,7 @@ value_of_bytes (a ∷ b ∷ c ∷ []) four small = absurd (omega arith)
 value_of_bytes (a ∷ b ∷ c ∷ d ∷ []) four small = omega (arith, value_of_four a b c d (small 0) (small 1) (small 2) (small 3))
 value_of_bytes (a ∷ b ∷ c ∷ d ∷ e ∷ rest) four small = absurd (omega arith)
 
-eight_digits : (w : ℕ) → length (encode_lower (to_be_bytes w32 w)) ≡ 8
+pub eight_digits : (w : ℕ) → length (encode_lower (to_be_bytes w32 w)) ≡ 8
 unfolding encode_with
 eight_digits w = refl
 

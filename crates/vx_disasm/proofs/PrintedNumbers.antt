@@ -140,7 +140,7 @@ onto_short (suc k) (suc j) n acc small = by_test (n / 16 == 0)
     let short : length (digits_onto k 16 false (n / 16) more) ≤ suc j + length more = onto_short k j (n / 16) more next in
     rw t (omega arith))
 
-short : (v : ℕ) → v < 2 ^ 32 → length (hexadecimal v) ≤ 10
+pub short : (v : ℕ) → v < 2 ^ 32 → length (hexadecimal v) ≤ 10
 unfolding sixteens digits
 short v small = omega (arith, onto_short 64 7 v [] (omega arith))
 

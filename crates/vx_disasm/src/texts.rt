@@ -1,6 +1,7 @@
 //! The text of a word, and of all words.
 ghost use Rattle.std.specs.Prelude.{◌≡◌, ◌++◌, ◌≤◌, length, Ok, IfOk, OnOk, string_bytes};
 ghost use Rattle.asm_text.specs.AsmTexts.{assembled};
+ghost use Rattle.asm_text.specs.HexLines.{most_words};
 ghost use Rattle.vx_disasm.specs.Texts.{instr_text, line_text, lines_text, operands_text};
 
 use asm_text::{Form, Mnemonic, Operands, push_hex_line};
@@ -63,7 +64,8 @@ fn push_word(alloc: Global, text: &mut Vec<u8>, word: u32) -> Result<(), AllocEr
 /// bytes, or `.word` and eight hexadecimal digits.
 pub fn disassemble(alloc: Global, words: &[u32]) -> Result<Text, Memory>
     ensures text { IfOk result (λ text. text ≡ lines_text words.now) }
-    ensures back { length words.now ≤ 65536 → assembled (lines_text words.now) ≡ Ok words.now }
+    ensures short { IfOk result (λ text. length words.now ≤ most_words → length text ≤ 2097152) }
+    ensures back { length words.now ≤ most_words → assembled (lines_text words.now) ≡ Ok words.now }
 {
     let mut items = Vec::new(alloc);
     for word in words {

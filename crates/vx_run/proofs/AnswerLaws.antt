@@ -1,12 +1,12 @@
 -- From stage to stage of a call.
-use Rattle.std.proofs.Common.{◌≡◌, ◌≢◌, ◌⊎◌, ℕ, zero, suc, ◌-◌, ◌^◌, ◌≤◌, ◌<◌, min, List, [], ◌∷◌, length, get_or, map, Some, refl, ap, sym, ◌∙◌, subst, arith, Ok, Err, length-take, inl, inr}
-use Rattle.std.specs.Prelude.{Option, None, Result, IfErr, slice_get}
+use Rattle.std.proofs.Common.{◌≡◌, ◌⊎◌, ℕ, zero, suc, ◌≤◌, ◌<◌, min, List, [], ◌∷◌, length, get_or, map, Some, refl, ap, sym, ◌∙◌, subst, arith, Ok, Err, length-take, inl, inr}
+use Rattle.std.specs.Prelude.{Option, Result, IfErr, IfOk, slice_get}
 use Rattle.std.proofs.lemmas.List.{take_all}
 use Rattle.std.specs.List.{AllByRecursion}
 use Rattle.std.proofs.lemmas.List.Elements.{All-from_recursion}
+use Rattle.vx_world.specs.Counts.{Rose}
 use Rattle.vx_world.specs.declared.reading.Entry.{Entry}
-use Rattle.vx_run.specs.declared.report.Cause.TheVariants.{Usage, Source, Launch, ReadFault, Missing}
-use Rattle.vx_run.specs.declared.report.LaunchKind.TheVariants.{NoEntry, NotBuilt, Arguments}
+use Rattle.vx_run.specs.declared.report.Cause.TheVariants.{Source, Launch, ReadFault, Missing}
 use Rattle.item_acts.specs.Tame.{LaunchLeaves}
 use Rattle.first_kernels.specs.First.{launch_of}
 use Rattle.vx_run.specs.Output.{output_text}
@@ -17,7 +17,8 @@ use Rattle.vx_words.specs.declared.run_words.RunWords.{RunWords}
 use Rattle.vx_words.specs.declared.usage.UsageFault.{UsageFault}
 use Rattle.vx_words.specs.declared.usage.UsageFault.TheVariants as usage
 use Rattle.first_kernels.specs.FirstForms.{form_from, IsFit}
-use Rattle.first_kernels.specs.FirstTree.{Form}
+use Rattle.first_kernels.specs.declared.tree.Kernel.{Kernel}
+use Rattle.first_kernels.specs.FirstTree.{Form, form_of}
 use Rattle.first_kernels.specs.FirstValues.{IsLaunchable}
 use Rattle.first_kernels.proofs.FirstSourceLaws.{has_form, source_leaves}
 use Rattle.ocl_program.specs.Nodes.{FunctionNode}
@@ -37,27 +38,43 @@ use Rattle.vx_words.specs.Commands as commands
 use Rattle.vx_words.specs.Commands.{IsCommand, IsUsage}
 use Rattle.vx_words.proofs.OneReading.{command_usage}
 use Rattle.vx_run.specs.Answers as answers
-use Rattle.vx_run.specs.Answers.{Outcome, Refuses, Prints, Chosen, bytes_in, most_source, FromArguments, WrongArguments, Runs, FromBuffers, FromKernel, HasForm, FromProgram, HasEntry, FromSource, LongSource, BadSource, HasProgram, FromFile, NoFile, HasFile, FromWords, WrongWords}
-use Rattle.vx_run.specs.Stages.{StopsAt, ComesTo, StageFaults, StageMisses, ReadsFront, StopsReading, IsRunnable, IsRunnableCommand, IsSourceFault, IsNoProgram, IsPlain, StopsFor, StopsForSource, ReadsBehind}
+use Rattle.vx_run.specs.declared.stages.Answer.{Answer}
+use Rattle.vx_run.specs.Answers.{Outcome, Refuses, Gives, Prints, Chosen, bytes_in, most_source, IsKernelOf, FromArguments, WrongArguments, Runs, FromBuffers, FromKernel, HasForm, FromProgram, HasEntry, FromSource, LongSource, BadSource, HasProgram, FromFile, NoFile, HasFile, FromWords, WrongWords}
+use Rattle.vx_run.specs.Stages.{StopsAt, ComesTo, HasKernel, IsNoKernel, IsNoKernelOf, SourceHasKernel, StageFaults, StageMisses, StopFaults, StopMisses, ReadsFront, StopsReading, IsRunnable, IsRunnableCommand, IsNoEntry, IsNoProgram, IsNotBuilt, IsPlain, IsSourceFault, IsWrongCount, StopsFor, StopsForSource, ReadsBehind}
 use Rattle.vx_run.proofs.LoadingLaws.{StopsAt-map}
 
 -- what comes of one stage comes of the one before it
-pub ComesTo-map : (P Q : Outcome → Type 0) → ((o : Outcome) → P o → Q o) → (r : Result (List ℕ) Stop) → ComesTo P r → ComesTo Q r
-ComesTo-map P Q f (Ok text) h = f (Prints text) h
+pub ComesTo-map : (P Q : Outcome → Type 0) → ((o : Outcome) → P o → Q o) → (r : Result Answer Stop) → ComesTo P r → ComesTo Q r
+ComesTo-map P Q f (Ok answer) h = f (Gives answer) h
 ComesTo-map P Q f (Err s) h = StopsAt-map P Q f s h
 
+-- a count that rose after some time rose in all
+pub rose_after : (before between now : ℕ) → before ≤ between → Rose between now → Rose before now
+rose_after before between now e r = omega (arith, e, r)
+
 -- a stage that reads no file leaves the counts
-pub plain_faults : (before now : ℕ) (r : Result (List ℕ) Stop) → IfErr r IsPlain → now ≡ before → StageFaults r before now
+pub plain_faults : (before now : ℕ) (r : Result Answer Stop) → IfErr r IsPlain → before ≤ now → StageFaults r before now
 plain_faults before now (Ok text) h e = e
 plain_faults before now (Err (stop.Refused (ReadFault faults))) h e = absurd h
 plain_faults before now (Err (stop.Refused c)) h e = e
-plain_faults before now (Err stop.Memory) h e = omega (arith, e)
+plain_faults before now (Err stop.Memory) h e = e
 
-pub plain_misses : (before now : ℕ) (r : Result (List ℕ) Stop) → IfErr r IsPlain → now ≡ before → StageMisses r before now
+pub plain_misses : (before now : ℕ) (r : Result Answer Stop) → IfErr r IsPlain → before ≤ now → StageMisses r before now
 plain_misses before now (Ok text) h e = e
 plain_misses before now (Err (stop.Refused (Missing name))) h e = absurd h
 plain_misses before now (Err (stop.Refused c)) h e = e
-plain_misses before now (Err stop.Memory) h e = omega (arith, e)
+plain_misses before now (Err stop.Memory) h e = e
+
+-- what a stage says of the counts holds from an earlier time on
+pub faults_before : (before between now : ℕ) (s : Stop) → before ≤ between → StopFaults s between now → StopFaults s before now
+faults_before before between now (stop.Refused (ReadFault faults)) e h = rose_after before between now e h
+faults_before before between now (stop.Refused c) e h = omega (arith, e, h)
+faults_before before between now stop.Memory e h = omega (arith, e, h)
+
+pub misses_before : (before between now : ℕ) (s : Stop) → before ≤ between → StopMisses s between now → StopMisses s before now
+misses_before before between now (stop.Refused (Missing name)) e h = rose_after before between now e h
+misses_before before between now (stop.Refused c) e h = omega (arith, e, h)
+misses_before before between now stop.Memory e h = omega (arith, e, h)
 
 -- what stops the read of the kernel's file stops the call
 pub unread_file : (held : Option (List Entry)) (c : RunWords) (s : Stop) → StopsReading held c.file s → StopsAt (FromFile held c) s
@@ -95,21 +112,56 @@ fault_of_whole held name bytes front pos kind (inr bad) =
     let short : length front.whole ≤ 1048576 = front_is_whole held name bytes front bad.0 in
     subst (λ x. IsSourceFault x pos kind) (sym (whole_is_front held name bytes front short)) (inr bad)
 
--- a file that has no program is refused
-pub no_program_stops : (held : Option (List Entry)) (c : RunWords) (bytes : List ℕ) → ReadsFront held c.file 1048577 bytes → (s : Stop) → IsNoProgram bytes s → StopsAt (FromFile held c) s
+-- what comes of its front comes of a file
+pub file_comes : (held : Option (List Entry)) (c : RunWords) (bytes : List ℕ) → ReadsFront held c.file 1048577 bytes → length bytes ≤ most_source →
+    (o : Outcome) → FromSource held c bytes o → FromFile held c o
+file_comes held c bytes front few o h =
+    let short : length front.whole ≤ 1048576 = front_is_whole held c.file bytes front few in
+    HasFile front.whole o front.holds (subst (λ x. FromSource held c x o) (sym (whole_is_front held c.file bytes front short)) h)
+
+-- bytes that have no program stop the call
+no_program_stops : (held : Option (List Entry)) (c : RunWords) (bytes : List ℕ) → ReadsFront held c.file 1048577 bytes → (s : Stop) → IsNoProgram bytes s → StopsAt (FromFile held c) s
 no_program_stops held c bytes front (stop.Refused (Source pos kind)) h =
     HasFile front.whole (Refuses (Source pos kind)) front.holds (source_refused held c front.whole pos kind (fault_of_whole held c.file bytes front pos kind h))
 no_program_stops held c bytes front (stop.Refused (ReadFault faults)) h = absurd h
 no_program_stops held c bytes front (stop.Refused other) h = absurd h
 no_program_stops held c bytes front stop.Memory h = tt
 
--- what comes of the program comes of its file
-pub program_comes : (held : Option (List Entry)) (c : RunWords) (bytes : List ℕ) → ReadsFront held c.file 1048577 bytes → length bytes ≤ 1048576 → (program : List FunctionNode) → FrontOf bytes (Ok program) →
-    (o : Outcome) → FromProgram held c program o → FromFile held c o
-program_comes held c bytes front few program is o h =
-    let short : length front.whole ≤ 1048576 = front_is_whole held c.file bytes front few in
-    let same : front.whole ≡ bytes = whole_is_front held c.file bytes front short in
-    HasFile front.whole o front.holds (subst (λ x. FromSource held c x o) (sym same) (HasProgram program o few is h))
+-- a name that no kernel has stops the call
+entry_stops : (held : Option (List Entry)) (c : RunWords) (program : List FunctionNode) (s : Stop) → IsNoEntry program c.entry s → StopsAt (FromProgram held c program) s
+entry_stops held c program (stop.Refused (Launch index kind)) h = rw (h.1, h.2) (answers.NoEntry h.0)
+entry_stops held c program (stop.Refused (ReadFault faults)) h = absurd h
+entry_stops held c program (stop.Refused other) h = absurd h
+entry_stops held c program stop.Memory h = absurd h
+
+-- a kernel without a form stops the call
+form_stops : (held : Option (List Entry)) (c : RunWords) (k : Chosen) (s : Stop) → IsNotBuilt k.kernel s → StopsAt (FromKernel held c k) s
+form_stops held c k (stop.Refused (Launch index kind)) h = rw (h.1, h.2) (answers.NotBuilt h.0)
+form_stops held c k (stop.Refused (ReadFault faults)) h = absurd h
+form_stops held c k (stop.Refused other) h = absurd h
+form_stops held c k stop.Memory h = tt
+
+-- a program without such a kernel stops the call
+kernel_stops : (held : Option (List Entry)) (c : RunWords) (program : List FunctionNode) (s : Stop) → IsNoKernel program c.entry s → StopsAt (FromProgram held c program) s
+kernel_stops held c program s (inl none) = entry_stops held c program s none
+kernel_stops held c program s (inr unbuilt) =
+    StopsAt-map (FromKernel held c (record { program = program; kernel = unbuilt.0 })) (FromProgram held c program) (λ o h. HasEntry unbuilt.0 o unbuilt.1 h) s (form_stops held c (record { program = program; kernel = unbuilt.0 }) s unbuilt.2)
+
+-- a file without such a kernel stops the call
+pub source_stops : (held : Option (List Entry)) (c : RunWords) (bytes : List ℕ) → ReadsFront held c.file 1048577 bytes → (s : Stop) → IsNoKernelOf bytes c.entry s → StopsAt (FromFile held c) s
+source_stops held c bytes front s (inl none) = no_program_stops held c bytes front s none
+source_stops held c bytes front s (inr bad) =
+    StopsAt-map (FromProgram held c bad.0) (FromFile held c) (λ o h. file_comes held c bytes front bad.1 o (HasProgram bad.0 o bad.1 bad.2 h)) s (kernel_stops held c bad.0 s bad.3)
+
+-- the kernel of a file, and the program that it is of
+abbrev pub chosen_of : (bytes name : List ℕ) (form : Form) → SourceHasKernel bytes name form → Chosen
+chosen_of bytes name form h = record { program = h.program; kernel = h.has.function }
+
+-- what comes of the buffers comes of the file
+pub buffers_come : (held : Option (List Entry)) (c : RunWords) (bytes : List ℕ) (form : Form) → ReadsFront held c.file 1048577 bytes → (h : SourceHasKernel bytes c.entry form) →
+    (o : Outcome) → FromBuffers held c (chosen_of bytes c.entry form h) 0 c.buffers [] o → FromFile held c o
+buffers_come held c bytes form front h o rest =
+    file_comes held c bytes front h.few o (HasProgram h.program o h.few h.front (HasEntry h.has.function o h.has.named (HasForm form o h.has.formed rest)))
 
 -- what is known of numbers of buffers
 numbers_below : (buffers : List BufWord) (ns : List ℕ) (names : List (List ℕ)) → AreNumbersOf buffers ns names → AllByRecursion (λ b. b < length buffers) ns
@@ -147,7 +199,7 @@ reads_command words c is (stop.Refused (ReadFault faults)) = λ word kind wrong.
 reads_command words c is (stop.Refused other) = tt
 reads_command words c is stop.Memory = tt
 
-pub command_reads : (words : List (List ℕ)) (c : Command) → IsCommand words c → (r : Result (List ℕ) Stop) → IfErr r (ReadsBehind words)
+pub command_reads : (words : List (List ℕ)) (c : Command) → IsCommand words c → (r : Result Answer Stop) → IfErr r (ReadsBehind words)
 command_reads words c is (Ok text) = tt
 command_reads words c is (Err s) = reads_command words c is s
 
@@ -156,13 +208,14 @@ pub reads_nothing : (words : List (List ℕ)) (fault : UsageFault) (s : Stop) �
 reads_nothing words (usage.Usage word kind) s is = subst (ReadsBehind words) (sym is) tt
 reads_nothing words usage.Memory s is = subst (ReadsBehind words) (sym is) tt
 
--- another number of arguments is refused
-pub arguments_refused : (c : RunWords) (k : Chosen) (contents : List (List ℕ)) (given wanted : ℕ) → given ≡ length c.arguments → wanted ≡ length k.kernel.params → given ≢ wanted →
-    FromArguments c k contents (Refuses (Launch 0 (Arguments (min given (2 ^ 32 - 1)) wanted)))
-arguments_refused c k contents given wanted e f other =
-    subst (λ n. FromArguments c k contents (Refuses (Launch 0 (Arguments (min n (2 ^ 32 - 1)) wanted)))) (sym e)
-    (subst (λ n. FromArguments c k contents (Refuses (Launch 0 (Arguments (min (length c.arguments) (2 ^ 32 - 1)) n)))) (sym f)
-    (WrongArguments (λ same. other (e ∙ same ∙ sym f))))
+-- another number of arguments stops the call
+pub count_stops : (c : RunWords) (k : Chosen) (contents : List (List ℕ)) (wanted : ℕ) (s : Stop) → wanted ≡ length k.kernel.params → IsWrongCount (length c.arguments) wanted s →
+    StopsAt (FromArguments c k contents) s
+count_stops c k contents wanted (stop.Refused (Launch index kind)) same h =
+    rw (h.1, h.2, same) (WrongArguments (λ e. h.0 (e ∙ sym same)))
+count_stops c k contents wanted (stop.Refused (ReadFault faults)) same h = absurd h
+count_stops c k contents wanted (stop.Refused other) same h = absurd h
+count_stops c k contents wanted stop.Memory same h = absurd h
 
 -- what a launch of the form leaves, the launch of the kernel leaves, and it is printed
 pub launch_prints : (c : RunWords) (k : Chosen) (form : Form) (contents : List (List ℕ)) (text : List ℕ) → form_from k.kernel ≡ Some form → IsLaunchable form c.arguments c.items (length c.buffers) →
@@ -190,22 +243,33 @@ node_at [] n f below is = absurd (omega arith)
 node_at (g ∷ fs) zero f below is = ap (λ (x : TypedFunction). Some (function_node x)) (sym is)
 node_at (g ∷ fs) (suc n) f below is = node_at fs n f (omega (arith, below)) is
 
--- what comes of a kernel that was found by its name comes of the program
-pub kernel_comes : (held : Option (List Entry)) (c : RunWords) (fs : List TypedFunction) (n : ℕ) (f : TypedFunction) → kernel_from 0 c.entry (map function_node fs) ≡ Some n → n < length fs →
-    f ≡ get_or fs n f → (o : Outcome) → FromKernel held c (record { program = map function_node fs; kernel = function_node f }) o → FromProgram held c (map function_node fs) o
-kernel_comes held c fs n f found below is o h = HasEntry (function_node f) o (record { number = n; found = found; is = node_at fs n f below is }) h
+-- the kernel with a number that its name has is the kernel of the name
+pub kernel_named : (fs : List TypedFunction) (name : List ℕ) (n : ℕ) (f : TypedFunction) → kernel_from 0 name (map function_node fs) ≡ Some n → n < length fs →
+    f ≡ get_or fs n f → IsKernelOf (map function_node fs) name (function_node f)
+kernel_named fs name n f found below is = record { number = n; found = found; is = node_at fs n f below is }
 
--- a kernel without a form is refused
-pub form_refused : (held : Option (List Entry)) (c : RunWords) (k : Chosen) → form_from k.kernel ≡ None → FromKernel held c k (Refuses (Launch 0 NotBuilt))
-form_refused held c k none = answers.NotBuilt none
+-- a form of the kernel of a name is one of its program
+pub with_kernel : (program : List FunctionNode) (name : List ℕ) (f : FunctionNode) → IsKernelOf program name f → (r : Result Kernel Stop) →
+    IfOk r (λ kernel. form_from f ≡ Some (form_of kernel)) → IfOk r (λ kernel. HasKernel program name (form_of kernel))
+with_kernel program name f named (Ok kernel) formed = record { function = f; named = named; formed = formed }
+with_kernel program name f named (Err s) formed = tt
 
--- what comes of the buffers comes of the kernel
-pub form_comes : (held : Option (List Entry)) (c : RunWords) (k : Chosen) (form : Form) → form_from k.kernel ≡ Some form → (o : Outcome) → FromBuffers held c k 0 c.buffers [] o → FromKernel held c k o
-form_comes held c k form is o h = HasForm form o is h
+-- without a form of that kernel there is none
+pub without_form : (program : List FunctionNode) (name : List ℕ) (f : FunctionNode) → IsKernelOf program name f → (r : Result Kernel Stop) →
+    IfErr r (IsNotBuilt f) → IfErr r (IsNoKernel program name)
+without_form program name f named (Ok kernel) none = tt
+without_form program name f named (Err s) none = inr (f, named, none)
 
--- a name that no kernel has is refused
-pub entry_refused : (held : Option (List Entry)) (c : RunWords) (program : List FunctionNode) → kernel_from 0 c.entry program ≡ None → FromProgram held c program (Refuses (Launch 0 NoEntry))
-entry_refused held c program none = answers.NoEntry none
+-- a kernel of the program of a file is one of the file
+pub with_source : (bytes name : List ℕ) (program : List FunctionNode) → length bytes ≤ most_source → FrontOf bytes (Ok program) → (r : Result Kernel Stop) →
+    IfOk r (λ kernel. HasKernel program name (form_of kernel)) → IfOk r (λ kernel. SourceHasKernel bytes name (form_of kernel))
+with_source bytes name program few front (Ok kernel) has = record { few = few; program = program; front = front; has = has }
+with_source bytes name program few front (Err s) has = tt
+
+pub without_kernel : (bytes name : List ℕ) (program : List FunctionNode) → length bytes ≤ most_source → FrontOf bytes (Ok program) → (r : Result Kernel Stop) →
+    IfErr r (IsNoKernel program name) → IfErr r (IsNoKernelOf bytes name)
+without_kernel bytes name program few front (Ok kernel) none = tt
+without_kernel bytes name program few front (Err s) none = inr (program, few, front, none)
 
 -- a source that has a fault stops the call for it, or for want of memory
 pub fault_stops : (bytes : List ℕ) (fault : SourceFault) (s : Stop) → length bytes ≤ most_source → (fault ≡ no_memory) ⊎ FrontOf bytes (Err fault) → StopsForSource fault s → IsNoProgram bytes s

@@ -1,9 +1,9 @@
 -- What a launch leaves is what is printed from its memory.
-use Rattle.std.proofs.Common.{◌≡◌, ℕ, zero, suc, ◌+◌, ◌*◌, ◌/◌, ◌%◌, ◌^◌, ◌<◌, ◌≤◌, List, [], ◌∷◌, ◌++◌, length, get_or, map, refl, ap, sym, ◌∙◌, subst, arith, All, cond, true}
+use Rattle.std.proofs.Common.{◌≡◌, ℕ, zero, suc, ◌+◌, ◌*◌, ◌/◌, ◌%◌, ◌^◌, ◌<◌, List, [], ◌∷◌, ◌++◌, length, get_or, map, refl, ap, sym, ◌∙◌, arith, cond}
 use Rattle.std.proofs.Math.Path.{fun_ext}
 use Rattle.std.proofs.lemmas.Bool.{lt-ltb}
 use Rattle.std.specs.List.{AllByRecursion, flat_map, range_with_len}
-use Rattle.vx_base.specs.Bytes.{byte_of, number_of, field_of}
+use Rattle.vx_base.specs.Bytes.{byte_of, field_of}
 use Rattle.vx_base.proofs.NumberLaws.{number_of-same, number_of-whole}
 use Rattle.vx_base.proofs.FieldLaws.{field_of-word}
 use Rattle.item_acts.specs.Tame.{LaunchLeaves}
@@ -12,7 +12,7 @@ use Rattle.first_kernels.specs.First.{array_of, launch_of}
 use Rattle.first_kernels.specs.FirstMemory.{stride, element_at, HasRun}
 use Rattle.first_kernels.specs.FirstTree.{Form}
 use Rattle.first_kernels.specs.FirstValues.{bytes_left, words_after, words_at, IsLaunchable}
-use Rattle.vx_run.specs.Layout.{fields_from, padded, shown_text}
+use Rattle.vx_run.specs.Layout.{padded, shown_text}
 use Rattle.vx_run.specs.Output.{buffer_text, name_of, words_of}
 use Rattle.vx_words.specs.declared.run_words.BufWord.{BufWord}
 use Rattle.first_kernels.proofs.FirstLaunchLeaves.{leaves}

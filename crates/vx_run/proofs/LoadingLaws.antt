@@ -1,21 +1,20 @@
-use Rattle.std.proofs.Common.{◌≡◌, ◌≢◌, ℕ, ◌+◌, ◌-◌, ◌*◌, ◌≤◌, min, List, [], ◌∷◌, ◌++◌, length, take, replicate, Some, ap, sym, ◌∙◌, subst, refl, arith, length-take, ◌<◌, All, drop, get_or, suc, add-one}
+use Rattle.std.proofs.Common.{◌≡◌, ◌≢◌, ℕ, ◌+◌, ◌*◌, min, List, [], ◌∷◌, ◌++◌, length, replicate, ap, sym, ◌∙◌, subst, refl, arith, length-take, ◌<◌, All, drop, get_or, suc, add-one}
 use Rattle.std.proofs.Math.Seq.{drop-cons}
 use Rattle.std.proofs.lemmas.List.{length_push}
 use Rattle.std.proofs.lemmas.List.Elements.{All-push}
-use Rattle.std.specs.Prelude.{Option, None}
+use Rattle.std.specs.Prelude.{Option}
 use Rattle.std.proofs.Math.ListN.{length-replicate}
 use Rattle.vx_world.specs.declared.reading.Entry.{Entry}
 use Rattle.vx_run.specs.declared.report.BufferKind.TheVariants as buffer
-use Rattle.vx_run.specs.declared.report.Cause.{Cause}
-use Rattle.vx_run.specs.declared.report.Cause.TheVariants.{Done, Usage, Source, Launch, Buffer, Trap, Stuck, Turns, ReadFault, WriteFault, Memory, Missing}
+use Rattle.vx_run.specs.declared.report.Cause.TheVariants.{Buffer, ReadFault, Missing}
 use Rattle.vx_run.specs.declared.stages.Stop.{Stop}
 use Rattle.vx_run.specs.declared.stages.Stop.TheVariants as stop
 use Rattle.vx_words.specs.declared.run_words.BufFrom.{BufFrom}
 use Rattle.vx_words.specs.declared.run_words.BufFrom.TheVariants.{File, Zero}
 use Rattle.vx_words.specs.declared.run_words.BufWord.{BufWord}
 use Rattle.vx_words.specs.declared.run_words.RunWords.{RunWords}
-use Rattle.vx_run.specs.Answers.{Chosen, Outcome, Refuses, Holds, Brings, counted_bytes, FromBuffers, NoBufferFile, WrongLength, NextBuffer, NoBuffers}
-use Rattle.vx_run.specs.Stages.{IsRefusal, StopsAt, ReadsFront, StopsReading}
+use Rattle.vx_run.specs.Answers.{Chosen, Outcome, Refuses, Brings, FromBuffers, NoBufferFile, WrongLength, NextBuffer}
+use Rattle.vx_run.specs.Stages.{StopsAt, ReadsFront, StopsReading}
 
 module _ (held : Option (List Entry)) (c : RunWords) (k : Chosen) (index : ℕ) (more : List BufWord) (contents : List (List ℕ)) where
   -- the outcomes of a buffer with this name and origin, and those behind it

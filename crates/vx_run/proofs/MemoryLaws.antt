@@ -1,11 +1,10 @@
 -- The memory of a launch by the contents of its buffers.
-use Rattle.std.proofs.Common.{◌≡◌, ℕ, zero, suc, ◌+◌, ◌-◌, ◌*◌, ◌/◌, ◌%◌, ◌^◌, ◌<◌, ◌≤◌, ◌⊎◌, inl, inr, List, [], ◌∷◌, ◌++◌, length, get_or, map, replicate, refl, ap, sym, ◌∙◌, subst, arith, length-append, lit<}
+use Rattle.std.proofs.Common.{◌≡◌, ℕ, zero, suc, ◌+◌, ◌-◌, ◌*◌, ◌<◌, ◌≤◌, inl, inr, List, [], ◌∷◌, ◌++◌, length, get_or, replicate, ap, sym, ◌∙◌, subst, arith, length-append, lit<}
 use Rattle.std.proofs.Math.Nat.{mul-le-mul_right}
 use Rattle.std.proofs.Math.ListN.{length-replicate, get_or-append}
 use Rattle.std.proofs.lemmas.Bool.{cases_lt}
 use Rattle.std.proofs.lemmas.List.{get_or-append-add, get_or_past}
-use Rattle.std.specs.List.{AllByRecursion, flat_map, range_with_len}
-use Rattle.vx_base.specs.Bytes.{byte_of, number_of, field_of}
+use Rattle.std.specs.List.{AllByRecursion, flat_map}
 use Rattle.vx_base.proofs.NumberLaws.{number_of-same}
 use Rattle.vx_run.specs.Answers.{bytes_in}
 use Rattle.first_kernels.specs.FirstMemory.{stride, element_at}

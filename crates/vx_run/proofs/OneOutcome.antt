@@ -1,4 +1,4 @@
--- A call whose files tell what they have comes to one refusal at most, or only to texts that it prints.
+-- A call whose files tell what they have comes to one refusal at most, or only to answers.
 use Rattle.std.proofs.Common.{◌≡◌, ℕ, suc, ◌*◌, List, [], ◌∷◌, ◌++◌, length, Some, refl, ap, sym, ◌∙◌, subst, arith}
 use Rattle.std.specs.Prelude.{Option, None, Result, Ok, Err, slice_get}
 use Rattle.vx_world.specs.declared.reading.Entry.{Entry}
@@ -18,17 +18,17 @@ use Rattle.vx_cc.specs.declared.faults.SourceFault.{SourceFault}
 use Rattle.vx_cc.proofs.OneFront.{one_front}
 use Rattle.vx_words.specs.declared.command.Command.{Command}
 use Rattle.vx_words.specs.declared.command.Command.TheVariants.{Run, Asm, Dis}
-use Rattle.vx_run.specs.Answers.{Chosen, Outcome, Refuses, Prints, Brings, counted_bytes, FromArguments, WrongArguments, Runs, FromBuffers, NoBuffers, NoBufferFile, WrongLength, NextBuffer, IsKernelOf, FromKernel, NotBuilt, HasForm, FromProgram, NoEntry, HasEntry, FromSource, LongSource, BadSource, HasProgram, FromFile, NoFile, HasFile, FromBytes, TooLong, BadText, GoodText, FromText, NoText, HasText, FromCommand, most_assembly, most_word_text, FromWords, WrongWords, RightWords}
+use Rattle.vx_run.specs.Answers.{Chosen, Outcome, Refuses, Gives, Prints, Brings, counted_bytes, FromArguments, WrongArguments, Runs, FromBuffers, NoBuffers, NoBufferFile, WrongLength, NextBuffer, IsKernelOf, FromKernel, NotBuilt, HasForm, FromProgram, NoEntry, HasEntry, FromSource, LongSource, BadSource, HasProgram, FromFile, NoFile, HasFile, FromBytes, TooLong, BadText, GoodText, FromText, NoText, HasText, FromCommand, most_assembly, most_word_text, FromWords, WrongWords, RightWords}
 use Rattle.vx_words.specs.Commands.{IsUsage}
 use Rattle.vx_words.proofs.OneReading.{command_same, command_usage, usage_same}
 use Rattle.vx_run.proofs.Answerable.{of_text}
 
--- two outcomes are one refusal, or both print
+-- two outcomes are one refusal, or both give answers
 abbrev pub Agree : Outcome → Outcome → Type 0
 Agree (Refuses c) (Refuses d) = c ≡ d
-Agree (Refuses c) (Prints text) = ⊥
-Agree (Prints text) (Refuses c) = ⊥
-Agree (Prints text) (Prints other) = Unit {0}
+Agree (Refuses c) (Gives answer) = ⊥
+Agree (Gives answer) (Refuses c) = ⊥
+Agree (Gives answer) (Gives other) = Unit {0}
 
 some_same : {X : Type 0} (o : Option X) (x y : X) → o ≡ Some x → o ≡ Some y → x ≡ y
 some_same o x y e f = cc

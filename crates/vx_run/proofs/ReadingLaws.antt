@@ -4,7 +4,6 @@ use Rattle.std.specs.Option.{ForSome}
 use Rattle.std.proofs.lemmas.List.{take_all}
 use Rattle.vx_world.specs.declared.reading.Entry.{Entry}
 use Rattle.vx_world.specs.Reading.{bytes_named}
-use Rattle.vx_run.specs.Answers.{Holds}
 use Rattle.vx_run.specs.Stages.{ReadsFront}
 
 -- what a function made of a value that is there

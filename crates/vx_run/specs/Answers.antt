@@ -32,12 +32,30 @@ use Rattle.vx_run.specs.declared.report.Cause.TheVariants as cause
 use Rattle.first_kernels.specs.FirstTree.{Form}
 use Rattle.first_kernels.specs.FirstForms.{form_from}
 use Rattle.first_kernels.specs.FirstSources.{source_launch}
+use Rattle.vx_run.specs.declared.report.Activity.{Activity}
+use Rattle.vx_run.specs.declared.stages.Answer.{Answer}
+use Rattle.vx_run.specs.Lines.{line_of}
 use Rattle.vx_run.specs.Output.{output_text}
 
--- What the words and the files of a call come to: it is refused for a cause, or it prints a text.
+-- nothing ran on the machine
+abbrev pub idle : Activity
+idle = record {}
+
+-- the answer of a call that prints a text
+abbrev pub printed : List ℕ → Answer
+printed text = record { cause = cause.Done; text = text; activity = idle }
+
+-- the answer of a call that is refused: the line that names the cause
+abbrev pub refusal : Cause → Answer
+refusal c = record { cause = c; text = line_of c; activity = idle }
+
+-- What the words and the files of a call come to: it is refused for a cause before anything runs, or it gives an answer.
 pub data Outcome : Type 0 where
   Refuses : Cause → Outcome
-  Prints : List ℕ → Outcome
+  Gives : Answer → Outcome
+
+abbrev pub Prints : List ℕ → Outcome
+Prints text = Gives (printed text)
 
 -- The files have this under a name, where they tell what they have.
 abbrev pub Holds : Option (List Entry) → List ℕ → Option (List ℕ) → Type 0

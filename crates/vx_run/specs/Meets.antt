@@ -1,4 +1,4 @@
-use Rattle.std.specs.Prelude.{◌≡◌, ℕ, ◌+◌, ◌^◌, ◌<◌, ◌≤◌, Option, Some, None, ◌⊎◌, List, []}
+use Rattle.std.specs.Prelude.{◌≡◌, ℕ, Option, Some, None, ◌⊎◌, List, []}
 use Rattle.vx_base.specs.declared.types.Pos.{Pos}
 use Rattle.vx_world.specs.Counts.{Rose}
 use Rattle.vx_world.specs.Writing.{Appends}
@@ -11,8 +11,9 @@ use Rattle.vx_run.specs.declared.report.Cause.{Cause}
 use Rattle.vx_run.specs.declared.report.Cause.TheVariants.{Done, Usage, Source, Launch, Buffer, Trap, Stuck, Turns, ReadFault, WriteFault, Memory, Missing}
 use Rattle.vx_run.specs.declared.report.Report.{Report}
 use Rattle.vx_run.specs.Delivery.{AppendsSome}
-use Rattle.vx_run.specs.Answers.{Outcome, Refuses, Prints, FromWords}
-use Rattle.vx_run.specs.Lines.{line_of, status_of}
+use Rattle.vx_run.specs.declared.stages.Answer.{Answer}
+use Rattle.vx_run.specs.Answers.{Refuses, Gives, refusal, FromWords}
+use Rattle.vx_run.specs.Lines.{status_of}
 
 -- The counts of the outside, and the bytes of the sink, where it tells them.
 pub record Outside : Type 0 where
@@ -40,20 +41,22 @@ WasCounted (ReadFault faults) before now = Rose before.read_faults now.read_faul
 WasCounted (Missing name) before now = Rose before.misses now.misses
 WasCounted c before now = Unit {0}
 
--- The text of an answer that the call may come to: what it prints, or the line of its refusal. The line of a failed read
--- and that of a missing name are answers only where the outside counted one.
-pub data AnswerText (held : Option (List Entry)) (words : List (List ℕ)) (before now : Outside) : Cause → List ℕ → Type 0 where
-  PrintedText : (text : List ℕ) → FromWords held words (Prints text) → AnswerText held words before now Done text
-  RefusalLine : (cause : Cause) → FromWords held words (Refuses cause) → WasCounted cause before now → AnswerText held words before now cause (line_of cause)
-  FaultLine : WasCounted (ReadFault 1) before now → AnswerText held words before now (ReadFault 1) (line_of (ReadFault 1))
+-- An answer that the call may come to: of what its words ask for, or of its refusal. The refusals for a failed read and for
+-- a missing name are answers only if the outside counted one.
+pub data MayAnswer (held : Option (List Entry)) (words : List (List ℕ)) (before now : Outside) : Answer → Type 0 where
+  AnswersWords : (a : Answer) → FromWords held words (Gives a) → MayAnswer held words before now a
+  AnswersRefusal : (cause : Cause) → FromWords held words (Refuses cause) → WasCounted cause before now →
+      MayAnswer held words before now (refusal cause)
+  AnswersFault : WasCounted (ReadFault 1) before now → MayAnswer held words before now (refusal (ReadFault 1))
 
--- What was written is a text of an answer that the call may come to, whole and for the cause of the report; or its front,
--- where the sink failed or memory ran out; or nothing, where memory ran out before.
+-- What was written is the text of an answer that the call may come to, whole, and the report is for its cause; or its front,
+-- if the sink failed or memory ran out; or nothing, if memory ran out before. The report tells what ran for the answer.
 pub data IsPrefix (held : Option (List Entry)) (words : List (List ℕ)) (before now : Outside) (report : Report) : Type 0 where
-  WholeText : (cause : Cause) (text : List ℕ) → AnswerText held words before now cause text → report.cause ≡ cause →
-      Appends before.written now.written text → IsPrefix held words before now report
-  FrontOfText : (cause : Cause) (text : List ℕ) (faults : ℕ) → AnswerText held words before now cause text →
-      (report.cause ≡ WriteFault faults) ⊎ (report.cause ≡ Memory) → AppendsSome before.written now.written text → IsPrefix held words before now report
+  WholeText : (a : Answer) → MayAnswer held words before now a → report.cause ≡ a.cause → report.activity ≡ a.activity →
+      Appends before.written now.written a.text → IsPrefix held words before now report
+  FrontOfText : (a : Answer) (faults : ℕ) → MayAnswer held words before now a →
+      (report.cause ≡ WriteFault faults) ⊎ (report.cause ≡ Memory) → report.activity ≡ a.activity →
+      AppendsSome before.written now.written a.text → IsPrefix held words before now report
   NoText : report.cause ≡ Memory → Appends before.written now.written [] → IsPrefix held words before now report
 
 -- the call is refused for this cause
@@ -87,7 +90,8 @@ pub record VxMeets (held : Option (List Entry)) (words : List (List ℕ)) (befor
   -- what is written is always the front of a text, and mostly all of it
   pub prefix : IsPrefix held words before now report
   -- with status 0 the printed buffers are those that the launch leaves, written whole
-  pub headline : report.cause ≡ Done → (text : List ℕ) × FromWords held words (Prints text) × Appends before.written now.written text
+  pub headline : report.cause ≡ Done → (a : Answer) × FromWords held words (Gives a) × (a.cause ≡ Done)
+      × (report.activity ≡ a.activity) × Appends before.written now.written a.text
   -- where no refusal's row holds and no fault was counted, the buffers are printed, unless memory ran out
   pub complete : ((cause : Cause) → IsRefused held words cause → ⊥) → (Rose before.read_faults now.read_faults → ⊥) →
       (Rose before.write_faults now.write_faults → ⊥) → (report.cause ≡ Done) ⊎ (report.cause ≡ Memory)

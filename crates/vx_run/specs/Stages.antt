@@ -1,4 +1,4 @@
-use Rattle.std.specs.Prelude.{◌≡◌, ◌≢◌, ◌⊎◌, ℕ, ◌*◌, ◌<◌, ◌≤◌, take, Some, None, List, Option, Result, Ok, Err, length, slice_index, All}
+use Rattle.std.specs.Prelude.{◌≡◌, ◌≢◌, ◌⊎◌, ℕ, ◌-◌, ◌^◌, ◌<◌, ◌≤◌, min, take, Some, None, List, Option, Result, Ok, Err, length, All}
 use Rattle.vx_world.specs.Counts.{Rose}
 use Rattle.vx_run.specs.declared.report.Cause.TheVariants as cause
 use Rattle.vx_run.specs.declared.report.Cause.{Cause}
@@ -23,7 +23,13 @@ use Rattle.asm_text.specs.declared.statements.AsmFault.{AsmFault}
 use Rattle.asm_text.specs.declared.statements.AsmFault.TheVariants as asm
 use Rattle.vx_words.specs.declared.command.Command.{Command}
 use Rattle.vx_words.specs.declared.command.Command.TheVariants.{Run, Asm, Dis}
-use Rattle.vx_run.specs.Answers.{Outcome, Refuses, Prints, Holds, most_source, asm_cause, hex_cause}
+use Rattle.vx_run.specs.declared.stages.Answer.{Answer}
+use Rattle.vx_run.specs.declared.report.LaunchKind.TheVariants as launch
+use Rattle.first_kernels.specs.FirstForms.{form_from}
+use Rattle.ocl_program.specs.Nodes.{FunctionNode}
+use Rattle.ocl_types.specs.Functions.{kernel_from}
+use Rattle.first_kernels.specs.FirstTree.{Form}
+use Rattle.vx_run.specs.Answers.{Outcome, Refuses, Gives, Holds, IsKernelOf, most_source, asm_cause, hex_cause}
 
 -- a refusal is one that the call may come to; a read fault is one read that failed
 abbrev pub IsRefusal : (Outcome → Type 0) → Cause → Type 0
@@ -35,21 +41,20 @@ abbrev pub StopsAt : (Outcome → Type 0) → Stop → Type 0
 StopsAt Comes (Refused c) = IsRefusal Comes c
 StopsAt Comes Memory = Unit {0}
 
--- a text is one that the call may come to print, and what stops it is a refusal that it may come to
-abbrev pub ComesTo : (Outcome → Type 0) → Result (List ℕ) Stop → Type 0
-ComesTo Comes (Ok text) = Comes (Prints text)
+-- an answer is one that the call may come to, and what stops it is a refusal that it may come to
+abbrev pub ComesTo : (Outcome → Type 0) → Result Answer Stop → Type 0
+ComesTo Comes (Ok answer) = Comes (Gives answer)
 ComesTo Comes (Err stop) = StopsAt Comes stop
 
--- what a refusal says of the count of read faults, and of the count of names that were not found
+-- the counts never fall; a read fault is answered only if its count rose, and a missing name only if that of misses did
 abbrev pub CausesFaults : Cause → ℕ → ℕ → Type 0
 CausesFaults (cause.ReadFault faults) before now = Rose before now
-CausesFaults c before now = now ≡ before
+CausesFaults c before now = before ≤ now
 
 abbrev pub CausesMisses : Cause → ℕ → ℕ → Type 0
 CausesMisses (cause.Missing name) before now = Rose before now
-CausesMisses c before now = now ≡ before
+CausesMisses c before now = before ≤ now
 
--- the counts rise only where a read failed, and where a name was not found; memory may run out behind that
 abbrev pub StopFaults : Stop → ℕ → ℕ → Type 0
 StopFaults (Refused c) before now = CausesFaults c before now
 StopFaults Memory before now = before ≤ now
@@ -59,11 +64,11 @@ StopMisses (Refused c) before now = CausesMisses c before now
 StopMisses Memory before now = before ≤ now
 
 abbrev pub StageFaults : {X : Type 0} → Result X Stop → ℕ → ℕ → Type 0
-StageFaults (Ok value) before now = now ≡ before
+StageFaults (Ok value) before now = before ≤ now
 StageFaults (Err stop) before now = StopFaults stop before now
 
 abbrev pub StageMisses : {X : Type 0} → Result X Stop → ℕ → ℕ → Type 0
-StageMisses (Ok value) before now = now ≡ before
+StageMisses (Ok value) before now = before ≤ now
 StageMisses (Err stop) before now = StopMisses stop before now
 
 -- these are the first bytes of the file of a name, at most so many
@@ -111,6 +116,49 @@ abbrev pub StopsForSource : SourceFault → Stop → Type 0
 StopsForSource fault (Refused (cause.Source pos kind)) = (fault ≡ fault_at pos kind) × (kind ≢ source.Memory)
 StopsForSource fault (Refused c) = ⊥
 StopsForSource fault Memory = Unit {0}
+
+-- a refusal because no kernel of the program has this name
+abbrev pub IsNoEntry : List FunctionNode → List ℕ → Stop → Type 0
+IsNoEntry program name (Refused (cause.Launch index kind)) =
+    (kernel_from 0 name program ≡ None) × (index ≡ 0) × (kind ≡ launch.NoEntry)
+IsNoEntry program name (Refused c) = ⊥
+IsNoEntry program name Memory = ⊥
+
+-- a refusal because a kernel is of no form that runs, or want of memory
+abbrev pub IsNotBuilt : FunctionNode → Stop → Type 0
+IsNotBuilt kernel (Refused (cause.Launch index kind)) = (form_from kernel ≡ None) × (index ≡ 0) × (kind ≡ launch.NotBuilt)
+IsNotBuilt kernel (Refused c) = ⊥
+IsNotBuilt kernel Memory = Unit {0}
+
+-- the kernel of a program that has this name is of this form
+pub record HasKernel (program : List FunctionNode) (name : List ℕ) (form : Form) : Type 0 where
+  pub function : FunctionNode
+  pub named : IsKernelOf program name function
+  pub formed : form_from function ≡ Some form
+
+-- no kernel of the program has this name, or the one that has it is of no form that runs, or memory ran out
+abbrev pub IsNoKernel : List FunctionNode → List ℕ → Stop → Type 0
+IsNoKernel program name stop = IsNoEntry program name stop
+    ⊎ ((function : FunctionNode) × IsKernelOf program name function × IsNotBuilt function stop)
+
+-- the kernel of this name in a file with these bytes is of this form
+pub record SourceHasKernel (bytes name : List ℕ) (form : Form) : Type 0 where
+  pub few : length bytes ≤ most_source
+  pub program : List FunctionNode
+  pub front : FrontOf bytes (Ok program)
+  pub has : HasKernel program name form
+
+-- the bytes have no program, or their program has no such kernel
+abbrev pub IsNoKernelOf : List ℕ → List ℕ → Stop → Type 0
+IsNoKernelOf bytes name stop = IsNoProgram bytes stop
+    ⊎ ((program : List FunctionNode) × (length bytes ≤ most_source) × FrontOf bytes (Ok program) × IsNoKernel program name stop)
+
+-- a refusal because a kernel takes another number of arguments
+abbrev pub IsWrongCount : ℕ → ℕ → Stop → Type 0
+IsWrongCount given wanted (Refused (cause.Launch index kind)) =
+    (given ≢ wanted) × (index ≡ 0) × (kind ≡ launch.Arguments (min given (2 ^ 32 - 1)) wanted)
+IsWrongCount given wanted (Refused c) = ⊥
+IsWrongCount given wanted Memory = ⊥
 
 -- no file stops the call
 abbrev pub IsPlain : Stop → Type 0

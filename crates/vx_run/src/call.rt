@@ -4,31 +4,37 @@ ghost use Rattle.vx_run.specs.Meets.{VxMeets};
 
 use crate::answer::answer;
 use crate::deliver::deliver;
-use crate::lines::{cause_line, cause_status};
-use crate::report::{Cause, Report};
-use crate::stages::Stop;
+use crate::lines::cause_status;
+use crate::report::{Activity, Cause, Report};
+use crate::stages::{Answer, Stop};
 use std::alloc::Global;
 use std::thread::Threads;
-use vx_base::Text;
+use vx_base::Memory;
 use vx_world::{Files, Gate, Out, OutFault};
 
-fn report(cause: Cause) -> Report
-    ensures { IsReportOf cause result }
+fn report(cause: Cause, activity: Activity) -> Report
+    ensures { IsReportOf cause activity result }
 {
     Report {
         status: cause_status(&cause),
         cause,
+        activity,
     }
 }
 
-// Writes the text of an answer, and reports its cause where it was written whole.
-fn deliver_answer<O: Out>(out: &mut O, cause: Cause, text: &Text) -> Report
-    ensures { Delivers cause text.now (O.written out.old) (O.written out.new) (O.faults out.old) (O.faults out.new) result }
+// Writes the text of an answer, and reports its cause if it was written whole.
+fn deliver_answer<O: Out>(out: &mut O, answer: Answer) -> Report
+    ensures { Delivers answer (O.written out.old) (O.written out.new) (O.faults out.old) (O.faults out.new) result }
 {
+    let Answer {
+        cause,
+        text,
+        activity,
+    } = answer;
     match deliver(out, text.as_slice()) {
-        Ok(()) => report(cause),
-        Err(OutFault::Failed) => report(Cause::WriteFault { faults: 1 }),
-        Err(OutFault::Memory) => report(Cause::Memory),
+        Ok(()) => report(cause, activity),
+        Err(OutFault::Failed) => report(Cause::WriteFault { faults: 1 }, activity),
+        Err(OutFault::Memory) => report(Cause::Memory, activity),
     }
 }
 
@@ -50,11 +56,11 @@ pub fn vx<R: Threads + Sync, F: Files, O: Out, G: Gate + Sync>(
         result }
 {
     match answer(alloc, files, words) {
-        Ok(text) => deliver_answer(out, Cause::Done, &text),
-        Err(Stop::Refused(cause)) => match cause_line(alloc, &cause) {
-            Ok(line) => deliver_answer(out, cause, &line),
-            Err(_) => report(Cause::Memory),
+        Ok(answer) => deliver_answer(out, answer),
+        Err(Stop::Refused(cause)) => match Answer::refusal(alloc, cause) {
+            Ok(answer) => deliver_answer(out, answer),
+            Err(Memory) => report(Cause::Memory, Activity),
         },
-        Err(Stop::Memory) => report(Cause::Memory),
+        Err(Stop::Memory) => report(Cause::Memory, Activity),
     }
 }

@@ -18,4 +18,4 @@ pub mod stages;
 pub mod texts;
 
 pub use call::vx;
-pub use report::{Cause, Report};
+pub use report::{Activity, Cause, Report};

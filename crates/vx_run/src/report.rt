@@ -113,6 +113,10 @@ pub enum Cause {
     },
 }
 
+/// What ran on the machine in a call. The kernels that run so far do not run on it, so there is nothing to tell yet.
+#[derive(Clone, Copy, Debug, PartialEq, Eq)]
+pub struct Activity;
+
 /// What a call of the program answers.
 #[derive(Debug, Drop)]
 pub struct Report {
@@ -120,4 +124,6 @@ pub struct Report {
     pub status: u8,
     /// Why it ends so.
     pub cause: Cause,
+    /// What ran.
+    pub activity: Activity,
 }

@@ -1,10 +1,54 @@
-//! The stages of a call, in the order of its answers: the words, the kernel's file, its text, the entry, the buffers, the
-//! arguments and the run. Each says by its contract which outcomes it leads to.
+//! What the stages of a call give on: an answer, or why the call stops before it.
 
-use crate::report::Cause;
-use std::alloc::AllocFailed;
+ghost use Rattle.std.specs.Prelude.{◌≡◌, IfOk};
+ghost use Rattle.vx_cc.specs.Faults.{first_place};
+ghost use Rattle.vx_run.specs.Answers.{printed, refusal};
 
-/// Why a call prints nothing.
+use crate::lines::cause_line;
+use crate::report::{Activity, Cause};
+use asm_text::{AsmFault, HexFault};
+use std::alloc::{AllocFailed, Global};
+use vx_base::{Memory, Pos, Text};
+use vx_cc::{SourceFault, SourceKind};
+use vx_words::UsageFault;
+
+/// What a call answers: why it ends, the text that it writes, and what ran.
+#[derive(Debug, Drop)]
+pub struct Answer {
+    /// Why the call ends.
+    pub cause: Cause,
+    /// The text that it writes.
+    pub text: Text,
+    /// What ran.
+    pub activity: Activity,
+}
+
+impl Answer {
+    /// The answer of a call that prints a text.
+    pub fn printed(text: Text) -> Answer
+        ensures { result ≡ printed text }
+    {
+        Answer {
+            cause: Cause::Done,
+            text,
+            activity: Activity,
+        }
+    }
+
+    /// The answer of a call that is refused: the line that names the cause.
+    pub fn refusal(alloc: Global, cause: Cause) -> Result<Answer, Memory>
+        ensures { IfOk result (λ answer. answer ≡ refusal cause) }
+    {
+        let text = cause_line(alloc, &cause)?;
+        Ok(Answer {
+            cause,
+            text,
+            activity: Activity,
+        })
+    }
+}
+
+/// Why a call has no answer of a command.
 #[derive(Debug, Drop)]
 pub enum Stop {
     /// The call is refused for this cause.
@@ -13,13 +57,29 @@ pub enum Stop {
     Memory,
 }
 
-impl From<vx_base::Memory> for Stop {
+impl Stop {
+    /// A source file is refused for this kind of fault, there.
+    pub fn source(pos: Pos, kind: SourceKind) -> Stop
+        ensures { result ≡ Stop.Refused (Cause.Source pos kind) }
+    {
+        Stop::Refused(Cause::Source { pos, kind })
+    }
+
+    /// A source file is refused because it has too many bytes.
+    pub fn too_long() -> Stop
+        ensures { result ≡ Stop.Refused (Cause.Source first_place SourceKind.TooLong) }
+    {
+        Stop::source(Pos { line: 1, col: 1 }, SourceKind::TooLong)
+    }
+}
+
+impl From<Memory> for Stop {
     ghost use Rattle.std.specs.Prelude.{◌≡◌};
     ghost use Rattle.vx_run.specs.declared.stages.Stop.TheVariants.{Memory};
 
     ghost from_gives = { λ _ stop. stop ≡ Memory };
 
-    fn from(_fault: vx_base::Memory) -> Stop {
+    fn from(_fault: Memory) -> Stop {
         Stop::Memory
     }
 }
@@ -32,5 +92,62 @@ impl<T: Drop> From<AllocFailed<T>> for Stop {
 
     fn from(_fault: AllocFailed<T>) -> Stop {
         Stop::Memory
+    }
+}
+
+impl From<UsageFault> for Stop {
+    ghost use Rattle.vx_run.specs.Stages.{StopsFor};
+
+    ghost from_gives = { StopsFor };
+
+    fn from(fault: UsageFault) -> Stop {
+        match fault {
+            UsageFault::Usage { word, kind } => Stop::Refused(Cause::Usage { word, kind }),
+            UsageFault::Memory => Stop::Memory,
+        }
+    }
+}
+
+impl From<SourceFault> for Stop {
+    ghost use Rattle.vx_run.specs.Stages.{StopsForSource};
+
+    ghost from_gives = { StopsForSource };
+
+    fn from(fault: SourceFault) -> Stop {
+        match fault.kind {
+            SourceKind::Memory => Stop::Memory,
+            kind => Stop::source(fault.pos, kind),
+        }
+    }
+}
+
+impl From<AsmFault> for Stop {
+    ghost use Rattle.vx_run.specs.Stages.{StopsForAsm};
+
+    ghost from_gives = { StopsForAsm };
+
+    fn from(fault: AsmFault) -> Stop {
+        match fault {
+            AsmFault::Syntax(pos) => Stop::source(pos, SourceKind::Syntax),
+            AsmFault::Range(pos) => Stop::source(pos, SourceKind::Range),
+            AsmFault::NoLabel(pos) => Stop::source(pos, SourceKind::NoLabel),
+            AsmFault::LabelTwice(pos) => Stop::source(pos, SourceKind::LabelTwice),
+            AsmFault::TooLarge { pos, words } => Stop::source(pos, SourceKind::Words { words }),
+            AsmFault::Memory => Stop::Memory,
+        }
+    }
+}
+
+impl From<HexFault> for Stop {
+    ghost use Rattle.vx_run.specs.Stages.{StopsForHex};
+
+    ghost from_gives = { StopsForHex };
+
+    fn from(fault: HexFault) -> Stop {
+        match fault {
+            HexFault::Syntax(pos) => Stop::source(pos, SourceKind::Syntax),
+            HexFault::TooLarge { pos, words } => Stop::source(pos, SourceKind::Words { words }),
+            HexFault::Memory => Stop::Memory,
+        }
     }
 }

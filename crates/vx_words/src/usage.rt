@@ -4,6 +4,7 @@ ghost use Rattle.vx_words.specs.declared.usage.UsageFault.TheVariants.{Memory};
 
 use std::alloc::{AllocError, AllocFailed};
 use std::fmt;
+use thiserror::Error;
 
 /// What is wrong with the words of the command line.
 #[derive(Clone, Copy, Debug, PartialEq, Eq)]
@@ -17,9 +18,10 @@ pub enum UsageKind {
 }
 
 /// Why words are not read.
-#[derive(Clone, Copy, Debug, PartialEq, Eq)]
+#[derive(Clone, Copy, Debug, PartialEq, Eq, Error)]
 pub enum UsageFault {
     /// The words are not as they should be.
+    #[error("usage word {word} {kind}")]
     Usage {
         /// The number of the word, from 0.
         word: u32,
@@ -27,6 +29,7 @@ pub enum UsageFault {
         kind: UsageKind,
     },
     /// Memory ran out.
+    #[error("memory ran out")]
     Memory,
 }
 

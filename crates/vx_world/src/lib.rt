@@ -17,7 +17,7 @@ pub mod writing;
 
 pub use calls::CallList;
 pub use folder_files::FolderFiles;
-pub use gates::{Gate, NoGate};
+pub use gates::{Gate, HoldGate, NoGate};
 pub use mem_files::{MemFiles, SureFiles};
 pub use mem_out::MemOut;
 pub use reading::{Entry, EntryList, Files, ReadFault};

@@ -4,6 +4,7 @@ ghost use Rattle.vx_world.specs.declared.reading.Entry.{Entry};
 ghost use Rattle.vx_world.specs.Reading.{bytes_named, CountsFaults, CountsMisses, ReadGives};
 
 use std::alloc::Global;
+use thiserror::Error;
 use vx_base::{ListOf, Text};
 
 /// A name, and the bytes of the file of that name.
@@ -19,13 +20,16 @@ pub struct Entry {
 pub type EntryList = ListOf<Entry>;
 
 /// Why a read gives no bytes.
-#[derive(Clone, Copy, Debug, PartialEq, Eq)]
+#[derive(Clone, Copy, Debug, PartialEq, Eq, Error)]
 pub enum ReadFault {
     /// No file has the name.
+    #[error("no file has this name")]
     Missing,
     /// The file could not be read.
+    #[error("the file could not be read")]
     Failed,
     /// Memory ran out.
+    #[error("memory ran out")]
     Memory,
 }
 
@@ -50,7 +54,7 @@ pub trait Files {
         ensures whole { IfOk result (λ bytes. length bytes.items < most →
             ForSome (held self.old) (λ entries. bytes_named entries name.now ≡ Some bytes.items)) }
 
-        // The counts never fall, and each rises only by its own fault.
+        // The counts never fall, and a fault comes only if its count rose.
         ensures faults { CountsFaults result (faults self.old) (faults self.new) }
         ensures faults_never_fall { faults self.old ≤ faults self.new }
         ensures misses { CountsMisses result (misses self.old) (misses self.new) }

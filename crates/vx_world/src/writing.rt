@@ -1,12 +1,16 @@
 ghost use Rattle.std.specs.Prelude.{◌≡◌, ℕ, ◌<◌, ◌≤◌, List, Option, length, IfOk};
 ghost use Rattle.vx_world.specs.Writing.{AppendsTaken, CountsWriteFaults};
 
+use thiserror::Error;
+
 /// Why a write took no byte.
-#[derive(Clone, Copy, Debug, PartialEq, Eq)]
+#[derive(Clone, Copy, Debug, PartialEq, Eq, Error)]
 pub enum OutFault {
     /// The sink could not be written.
+    #[error("the sink could not be written")]
     Failed,
     /// Memory ran out.
+    #[error("memory ran out")]
     Memory,
 }
 
@@ -25,7 +29,7 @@ pub trait Out {
         ensures within { IfOk result (λ count. count ≤ length piece.now) }
         ensures appends { AppendsTaken result piece.now (written self.old) (written self.new) }
 
-        // The count never falls, and it rises only where the write failed.
+        // The count never falls, and a write fails only if it rose.
         ensures faults { CountsWriteFaults result (faults self.old) (faults self.new) }
         ensures faults_never_fall { faults self.old ≤ faults self.new };
 }

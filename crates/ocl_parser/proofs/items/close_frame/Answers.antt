@@ -13,5 +13,5 @@ not_block (WhileFrame test) K h = refl
 not_block DoFrame K h = refl
 not_block (ForFrame first test step) K h = refl
 
-pub returns : goal.returns
-returns c = not_block c.args.frame c.args.frames.now c.in_default.not-Block
+pub returns-in_default : goal.returns-in_default
+returns-in_default c = not_block c.args.frame c.args.frames.now c.in_default.not-Block

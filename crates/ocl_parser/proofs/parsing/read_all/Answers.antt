@@ -1,20 +1,19 @@
-use Rattle.std.proofs.Common.{◌≡◌, ◌<◌, ◌≤◌, arith, List, length, map, ℕ}
+use Rattle.std.proofs.Common.{◌<◌, ◌≤◌, arith, inr, List, length, map}
 use Rattle.ocl_ast.specs.Shapes.{function_tree}
 use Rattle.ocl_ast.specs.Trees.{FunctionTree}
-use Rattle.ocl_parser.proofs.RunSteps.{reads_more, ends_more, step_ends, step_can, step_fits, refused_at, token_stops, no_text, never_unended, read_whole}
+use Rattle.ocl_parser.proofs.RunSteps.{reads_more, ends_more, step_ends, step_can, step_fits, stops_refused, stops_memory, no_text, never_unended, read_whole}
 use Rattle.ocl_parser.proofs.parsing.read_all.Goals as goal
 
 pub returns-in-Err-clause-refused : goal.returns-in-Err-clause-refused
 returns-in-Err-clause-refused c =
     let low : c.loop-token.token-index < length c.args.tokens.now = omega (arith, c.loop-token-test.true) in
-    λ _.
-    refused_at c.args.tokens.now c.loop-token.token-index c.token-item.result c.loop-token.focus (map function_tree c.loop-token.functions) c.in-Err.fault low
+    stops_refused c.args.tokens.now c.loop-token.token-index c.token-item.result c.loop-token.focus (map function_tree c.loop-token.functions) c.in-Err.fault low
     c.token-item.is c.loop-token.invariant.reads c.loop-token.invariant.can c.loop-token.invariant.fits c.in-Err.ensures.stops
 
 pub returns-in-Err-clause-read : goal.returns-in-Err-clause-read
 returns-in-Err-clause-read c =
     let low : c.loop-token.token-index < length c.args.tokens.now = omega (arith, c.loop-token-test.true) in
-    token_stops c.args.tokens.now c.loop-token.token-index c.token-item.result c.loop-token.focus (map function_tree c.loop-token.functions) c.in-Err.fault low
+    stops_memory c.args.tokens.now c.loop-token.token-index c.token-item.result c.loop-token.focus (map function_tree c.loop-token.functions) c.in-Err.fault low
     c.token-item.is c.loop-token.invariant.reads c.loop-token.invariant.can c.loop-token.invariant.fits c.in-Err.ensures.stops
 
 pub loop-token-preserved : goal.loop-token-preserved
@@ -42,7 +41,7 @@ pub returns-else-is_ended-clause-refused : goal.returns-else-is_ended-clause-ref
 returns-else-is_ended-clause-refused c =
     let low : length c.args.tokens.now ≤ c.loop-token.token-index = omega (arith, c.loop-token-test.false) in
     let high : c.loop-token.token-index ≤ length c.args.tokens.now = omega (arith, c.loop-token.auto.token-index-end) in
-    λ e. absurd (never_unended c.args.tokens.now c.loop-token.token-index c.loop-token.focus low high c.loop-token.invariant.ended c.if-is_ended.ensures e)
+    inr (λ e. absurd (never_unended c.args.tokens.now c.loop-token.token-index c.loop-token.focus low high c.loop-token.invariant.ended c.if-is_ended.ensures e))
 
 pub returns-then-is_ended-clause-within : goal.returns-then-is_ended-clause-within
 returns-then-is_ended-clause-within c = c.loop-token.invariant.fits.1

@@ -1,4 +1,4 @@
-use Rattle.std.proofs.Common.{◌≡◌, ◌++◌, ◌∷◌, [], ap, sym, ◌∙◌}
+use Rattle.std.proofs.Common.{◌++◌, ◌∷◌, [], ap, sym, ◌∙◌}
 use Rattle.vx_run.specs.Layout.{fields_from}
 use Rattle.vx_run.proofs.LayoutLaws.{fields_from-more}
 use Rattle.vx_run.proofs.layout.words_at.Goals as goal

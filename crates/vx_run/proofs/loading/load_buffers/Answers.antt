@@ -1,9 +1,7 @@
-use Rattle.std.proofs.Common.{◌≡◌, ◌<◌, ◌≤◌, ◌+◌, List, [], ◌∷◌, ◌++◌, length, get_or, drop, subst, sym, ap, ◌∙◌}
+use Rattle.std.proofs.Common.{◌≡◌, ◌<◌, ◌≤◌, ◌+◌, [], length, get_or, drop, subst, sym, ap, ◌∙◌, arith}
 use Rattle.std.proofs.lemmas.List.{drop_all}
 use Rattle.std.proofs.lemmas.Result.{err_from_is_err_and}
-use Rattle.vx_words.specs.declared.run_words.BufWord.{BufWord}
 use Rattle.vx_run.specs.Answers.{Brings, FromBuffers, NoBuffers}
-use Rattle.vx_run.specs.Stages.{StopsAt}
 use Rattle.vx_run.proofs.LoadingLaws.{HasLoaded, HasLoaded-next, HasLoaded-stops}
 use Rattle.vx_run.proofs.loading.load_buffers.Goals as goal
 
@@ -30,8 +28,8 @@ loop-index-preserved g c =
     let brings = subst (λ h. Brings h word.from c.in_ok-bytes.bytes) c.loop-index.invariant.0 c.in_ok-bytes.ensures.brings in
     let next = HasLoaded-next (held c.args.files.now) run c.loop-index.index c.loop-index.contents.items word c.in_ok-bytes.bytes within is brings c.in_ok-bytes.ensures.length c.loop-index.invariant.3 in (
       c.in_ok-bytes.ensures.held ∙ c.loop-index.invariant.0,
-      c.in_ok-bytes.ensures.faults ∙ c.loop-index.invariant.1,
-      c.in_ok-bytes.ensures.misses ∙ c.loop-index.invariant.2,
+      omega (arith, c.in_ok-bytes.ensures.faults, c.loop-index.invariant.1),
+      omega (arith, c.in_ok-bytes.ensures.misses, c.loop-index.invariant.2),
       subst (HasLoaded (held c.args.files.now) run (c.loop-index.index + 1)) (sym c.in_ok-push.ensures.items) next,
     )
 

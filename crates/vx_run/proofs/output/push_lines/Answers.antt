@@ -1,4 +1,4 @@
-use Rattle.std.proofs.Common.{◌≡◌, ◌+◌, ◌-◌, ◌*◌, ◌≤◌, ◌++◌, length, take, drop, arith, ap, ◌∙◌, sym, append_assoc}
+use Rattle.std.proofs.Common.{◌-◌, ◌*◌, ◌≤◌, ◌++◌, length, take, drop, arith, ap, ◌∙◌, sym, append_assoc}
 use Rattle.std.specs.List.{flat_map, range_with_len}
 use Rattle.vx_run.specs.Output.{line_at, row_text}
 use Rattle.vx_run.proofs.OutputLaws.{take_cut, flat_map-more}

@@ -1,6 +1,5 @@
-use Rattle.std.proofs.Common.{◌≡◌, ℕ, List, ◌∙◌}
+use Rattle.std.proofs.Common.{◌≡◌, ◌∙◌}
 use Rattle.vx_run.proofs.ReadingLaws.{front_read}
-use Rattle.vx_run.specs.Stages.{ReadsFront}
 use Rattle.vx_run.proofs.reading.read_file.Goals as goal
 
 pub returns-in-Ok-clause-front : goal.returns-in-Ok-clause-front

@@ -1,4 +1,4 @@
-use Rattle.std.proofs.Common.{◌≡◌, refl, sym, subst}
+use Rattle.std.proofs.Common.{refl, subst}
 use Rattle.std.proofs.lemmas.Result.{err_from_is_err_and}
 use Rattle.vx_run.specs.Answers.{word_text_outcome, most_word_text, FromBytes, FromText}
 use Rattle.vx_run.proofs.AnswerLaws.{ComesTo-map}

@@ -1,0 +1,9 @@
+pub mod NameTexts
+pub mod CutTexts
+pub mod Bytes
+pub mod Again
+pub mod From
+pub mod Answering
+pub mod RunWords
+pub mod WorkedWords
+pub mod WorkedLimits

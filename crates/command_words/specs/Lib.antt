@@ -1,0 +1,11 @@
+pub mod Kinds
+pub mod Names
+pub mod Cuts
+pub mod Places
+pub mod Readers
+pub mod Texts
+pub mod Limits
+pub mod Repeats
+pub mod Meaning
+pub mod Commands
+pub mod Spelled

@@ -1,0 +1,193 @@
+//! The forms of a kernel: as its text has it, with its calls expanded, in normal form, and with flags in place of jumps.
+
+ghost use Rattle.std.specs.Prelude.{◌≡◌, ◌<◌, Some, length, map};
+ghost use Rattle.ocl_program.specs.Shapes.{function_node};
+ghost use Rattle.ocl_inline.specs.Shapes.{kernel_of};
+ghost use Rattle.ocl_inline.specs.FlatItems.{flat_at};
+
+use crate::bytes::Bytes;
+use crate::rows::Row;
+use crate::runs::{Run, run};
+use item_acts::{Bound, BoundList, ItemCode, Range};
+use kir::{Kir, KirItems};
+use kir_flow::flags;
+use ocl_inline::{Flat, expand};
+use ocl_launch::{fits, flat_items_of, items_of};
+use ocl_norm::normalise;
+use ocl_types::Program;
+use std::alloc::{AllocError, Global};
+use vx_base::{ListOf, Memory, ParamKind};
+use vx_cc::front;
+
+/// The most bytes that a file may have.
+const LIMIT: usize = 1_048_576;
+
+/// How many bytes the buffer of a launch has.
+const BYTES: u32 = 32;
+
+/// How many work-items a launch has, at most 64.
+fn count_of(range: Range) -> u32 {
+    let [x, y, z] = range.global;
+    x.saturating_mul(y).saturating_mul(z).min(64)
+}
+
+/// The buffer for a kernel whose one parameter is a pointer.
+fn bounds_of(alloc: Global, program: &Program, kernel: u32) -> Result<BoundList, AllocError>
+    requires { kernel < length program.now.functions.items }
+{
+    let mut items = Vec::new(alloc);
+    for param in program.params(kernel).as_slice() {
+        if let ParamKind::Pointer { elem, .. } = param.kind {
+            let count = BYTES.checked_div(elem.size().bytes()).unwrap_or(0);
+            items.push(Bound::Array { place: 0, count })?;
+        }
+    }
+    Ok(ListOf { items })
+}
+
+/// Runs the items of a row's launch.
+fn run_items<I: ItemCode>(alloc: Global, row: &Row, items: &I) -> Result<Run, Memory> {
+    run(alloc, items, count_of(row.range), Bytes::of(row.given))
+}
+
+/// Runs a kernel as its text has it. None if its parameter is no pointer.
+fn run_source(
+    alloc: Global,
+    row: &Row,
+    program: &Program,
+    kernel: u32,
+) -> Result<Option<Run>, Memory>
+    requires { kernel < length program.now.functions.items }
+{
+    let bounds = bounds_of(alloc, program, kernel)?;
+    if !fits(program, kernel, &bounds) {
+        return Ok(None);
+    }
+    let run = run_items(alloc, row, &items_of(program, kernel, row.range, bounds))?;
+    Ok(Some(run))
+}
+
+/// Runs a kernel with its calls expanded. None if its parameter is no pointer.
+fn run_flat(
+    alloc: Global,
+    row: &Row,
+    program: &Program,
+    kernel: u32,
+    flat: &Flat,
+) -> Result<Option<Run>, Memory>
+    requires exists { kernel < length program.now.functions.items }
+    requires flat { flat_at (map function_node program.now.functions.items) kernel ≡ Some (kernel_of flat.now) }
+{
+    let bounds = bounds_of(alloc, program, kernel)?;
+    if !fits(program, kernel, &bounds) {
+        return Ok(None);
+    }
+    let items = flat_items_of(program, kernel, flat, row.range, bounds);
+    let run = run_items(alloc, row, &items)?;
+    Ok(Some(run))
+}
+
+/// Runs structured code.
+fn run_code(alloc: Global, row: &Row, code: &Kir, bounds: BoundList) -> Result<Run, Memory> {
+    let items = KirItems {
+        code,
+        range: row.range,
+        bounds,
+    };
+    run_items(alloc, row, &items)
+}
+
+/// The normal form of a flat kernel, if it has fewer than 2^32 variables.
+fn normal_of(alloc: Global, flat: &Flat) -> Result<Option<Kir>, Memory> {
+    if !ocl_norm::fits(flat) {
+        return Ok(None);
+    }
+    let code = normalise(alloc, flat)?;
+    Ok(Some(code))
+}
+
+/// Structured code without jumps, if it has fewer than 2^32 variables.
+fn flagged_of(alloc: Global, code: &Kir) -> Result<Option<Kir>, Memory> {
+    if !kir_flow::fits(code) {
+        return Ok(None);
+    }
+    let made = flags(alloc, code)?;
+    Ok(Some(made))
+}
+
+/// Says that a form asks for other actions than the source does, if it does so.
+fn push_difference(
+    said: &mut String,
+    form: &str,
+    source: &str,
+    actions: &str,
+) -> Result<(), AllocError> {
+    if actions == source {
+        return Ok(());
+    }
+    said.push_str(", other actions with ")?;
+    said.push_str(form)
+}
+
+/// Says which forms of structured code ask for other actions than the source does.
+fn push_code(
+    said: &mut String,
+    alloc: Global,
+    row: &Row,
+    program: &Program,
+    kernel: u32,
+    flat: &Flat,
+    source: &str,
+) -> Result<(), Memory>
+    requires { kernel < length program.now.functions.items }
+{
+    let Some(normal) = normal_of(alloc, flat)? else {
+        said.push_str(", no normal form")?;
+        return Ok(());
+    };
+    let ran = run_code(alloc, row, &normal, bounds_of(alloc, program, kernel)?)?;
+    push_difference(said, "normal form", source, ran.actions.as_str())?;
+    let Some(flagged) = flagged_of(alloc, &normal)? else {
+        said.push_str(", no flags")?;
+        return Ok(());
+    };
+    let ran = run_code(alloc, row, &flagged, bounds_of(alloc, program, kernel)?)?;
+    push_difference(said, "flags", source, ran.actions.as_str())?;
+    Ok(())
+}
+
+/// How the launch of a kernel ends, and which forms of it ask for other actions than the source does.
+fn answer_kernel(alloc: Global, row: &Row, program: &Program, kernel: u32) -> Result<String, Memory>
+    requires { kernel < length program.now.functions.items }
+{
+    let Some(source) = run_source(alloc, row, program, kernel)? else {
+        return Ok(String::from_str(alloc, "another parameter")?);
+    };
+    let mut said = source.end;
+    let actions = source.actions.as_str();
+    let flat = expand(alloc, program, kernel)?;
+    if let Some(ran) = run_flat(alloc, row, program, kernel, &flat)? {
+        push_difference(&mut said, "calls expanded", actions, ran.actions.as_str())?;
+    }
+    push_code(&mut said, alloc, row, program, kernel, &flat, actions)?;
+    Ok(said)
+}
+
+/// What a row comes to: how the launch of its kernel `k` ends, and which forms of it ask for other actions than the source does.
+pub fn answer(alloc: Global, row: &Row) -> Result<String, Memory> {
+    let text = row.text.as_bytes();
+    if text.len() > LIMIT {
+        return Ok(String::from_str(alloc, "too long")?);
+    }
+    let program = match front(alloc, text) {
+        Ok(program) => program,
+        Err(fault) => {
+            let pos = fault.pos;
+            return Ok(format!(in alloc; "{} {}:{}", fault.kind, pos.line, pos.col)?);
+        }
+    };
+    match program.find(b"k") {
+        Some(kernel) => answer_kernel(alloc, row, &program, kernel),
+        None => Ok(String::from_str(alloc, "no kernel k")?),
+    }
+}

@@ -1,0 +1,149 @@
+//! The work-items of a launch, one after another up to their next barriers, until all have ended.
+
+use crate::bytes::Bytes;
+use item_acts::{Action, Asked, ItemCode};
+use std::alloc::{AllocError, Global};
+use vx_base::{Memory, Pos};
+
+/// How many small steps may lead to the next action.
+const STEPS: u64 = 20_000;
+
+/// How many actions an item may ask for without a barrier between them.
+const ACTIONS: u32 = 1_000;
+
+/// How many times all items may go on to their next barriers.
+const ROUNDS: u32 = 100;
+
+/// Why an item goes on no further alone.
+#[derive(Clone, Copy)]
+enum Pause {
+    Waits,
+    Ended,
+    Fault(Pos),
+    Runs,
+}
+
+/// A work-item on its way.
+#[derive(Drop)]
+struct Way {
+    /// Its number in the launch.
+    number: u32,
+    /// Its answers so far.
+    answers: Vec<u32>,
+    /// Whether it has ended.
+    over: bool,
+}
+
+/// What the items of a launch asked for, and how the launch ended.
+#[derive(Drop)]
+pub struct Run {
+    /// Each action, in order.
+    pub actions: String,
+    /// The words after it, or the fault that came, with its item.
+    pub end: String,
+}
+
+/// Lets an item make one action. None if it goes on after it.
+fn act<I: ItemCode>(
+    alloc: Global,
+    items: &I,
+    way: &mut Way,
+    bytes: &mut Bytes,
+    actions: &mut String,
+) -> Result<Option<Pause>, Memory> {
+    let asked = items.next(alloc, way.number, way.answers.as_slice(), STEPS)?;
+    actions.push_str(format!(in alloc; "{} {asked:?}\n", way.number)?.as_str())?;
+    let (answer, pause) = match asked {
+        Asked::Running => (0, Some(Pause::Runs)),
+        Asked::Act(Action::Load { place, size }) => (bytes.load(place, size), None),
+        Asked::Act(Action::Store { place, size, value }) => {
+            bytes.store(place, size, value);
+            (0, None)
+        }
+        Asked::Act(Action::Barrier(_)) => (0, Some(Pause::Waits)),
+        Asked::Act(Action::Fault(pos)) => (0, Some(Pause::Fault(pos))),
+        Asked::Act(Action::End) => (0, Some(Pause::Ended)),
+    };
+    way.answers.push(answer)?;
+    Ok(pause)
+}
+
+/// Lets an item go on until it can go no further alone.
+fn go<I: ItemCode>(
+    alloc: Global,
+    items: &I,
+    way: &mut Way,
+    bytes: &mut Bytes,
+    actions: &mut String,
+) -> Result<Pause, Memory> {
+    for _ in 0..ACTIONS {
+        if let Some(pause) = act(alloc, items, way, bytes, actions)? {
+            return Ok(pause);
+        }
+    }
+    Ok(Pause::Runs)
+}
+
+/// The items of a launch before their first steps.
+fn ways_of(alloc: Global, count: u32) -> Result<Vec<Way>, AllocError> {
+    let mut ways = Vec::new(alloc);
+    for number in 0..count {
+        ways.push(Way {
+            number,
+            answers: Vec::new(alloc),
+            over: false,
+        })?;
+    }
+    Ok(ways)
+}
+
+/// Lets each item go on that has not ended. None if one waits at a barrier, and else how the launch ended.
+fn go_all<I: ItemCode>(
+    alloc: Global,
+    items: &I,
+    ways: &mut [Way],
+    bytes: &mut Bytes,
+    actions: &mut String,
+) -> Result<Option<String>, Memory> {
+    let mut waits = false;
+    for way in ways.iter_mut() {
+        if way.over {
+            continue;
+        }
+        match go(alloc, items, way, bytes, actions)? {
+            Pause::Waits => waits = true,
+            Pause::Ended => way.over = true,
+            Pause::Fault(pos) => {
+                let end = format!(in alloc;
+                    "fault {}:{} of item {}",
+                    pos.line, pos.col, way.number
+                )?;
+                return Ok(Some(end));
+            }
+            Pause::Runs => return Ok(Some(format!(in alloc; "item {} still runs", way.number)?)),
+        }
+    }
+    if waits {
+        return Ok(None);
+    }
+    Ok(Some(bytes.words_text(alloc)?))
+}
+
+/// Runs so many items over some words.
+pub fn run<I: ItemCode>(
+    alloc: Global,
+    items: &I,
+    count: u32,
+    mut bytes: Bytes,
+) -> Result<Run, Memory> {
+    let mut ways = ways_of(alloc, count)?;
+    let mut actions = String::new(alloc);
+    for _ in 0..ROUNDS {
+        let end = go_all(alloc, items, ways.as_mut_slice(), &mut bytes, &mut actions)?;
+        if let Some(end) = end {
+            return Ok(Run { actions, end });
+        }
+    }
+    let end = String::from_str(alloc, "too many barriers")?;
+    Ok(Run { actions, end })
+}

@@ -1,0 +1,5 @@
+pub mod Spots
+pub mod Labels
+pub mod Honest
+pub mod Laws
+pub mod Clean

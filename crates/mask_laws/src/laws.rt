@@ -1,0 +1,15 @@
+//! The laws of a warp over lowered code, each as a contract. The functions themselves do nothing.
+ghost use Rattle.mask_laws.specs.Clean.{LanesBeginClean};
+ghost use Rattle.mask_laws.specs.Laws.{WarpsInStep};
+
+/// From its start a warp passes to the lanes that have an item, whatever is answered. From there on it does for each of its lanes what
+/// the lane does alone, its active lanes wait at one point, it traps only at a failed check, and it ends with all its lanes.
+pub fn warps_are_in_step()
+    ensures { WarpsInStep }
+{}
+
+/// A lane alone reads only registers that it has written since it began: at the first place, at that at which other warps begin, and behind
+/// the operation that leaves the lanes that have an item.
+pub fn lanes_begin_clean()
+    ensures { LanesBeginClean }
+{}

@@ -1,0 +1,12 @@
+pub mod Lowered
+pub mod Around
+pub mod Kept
+pub mod Partings
+pub mod Bounds
+pub mod Views
+pub mod Laid
+pub mod Runs
+pub mod WrittenFirst
+pub mod InArrays
+pub mod InBlock
+pub mod WithoutItems

@@ -1,0 +1,4 @@
+pub mod Marks
+pub mod Sweeps
+pub mod Pairs
+pub mod Places

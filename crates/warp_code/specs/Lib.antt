@@ -1,0 +1,2 @@
+pub mod Warps
+pub mod Runs
