@@ -7,7 +7,7 @@ ghost use Rattle.ocl_inline.specs.FlatItems.{flat_at};
 
 use crate::bytes::Bytes;
 use crate::rows::Row;
-use crate::runs::{Run, run};
+use crate::runs::{Run, run_launch};
 use item_acts::{Bound, BoundList, ItemCode, Range};
 use kir::{Kir, KirItems};
 use kir_flow::flags;
@@ -47,7 +47,7 @@ fn bounds_of(alloc: Global, program: &Program, kernel: u32) -> Result<BoundList,
 
 /// Runs the items of a row's launch.
 fn run_items<I: ItemCode>(alloc: Global, row: &Row, items: &I) -> Result<Run, Memory> {
-    run(alloc, items, count_of(row.range), Bytes::of(row.given))
+    run_launch(alloc, items, count_of(row.range), Bytes::of(row.given))
 }
 
 /// Runs a kernel as its text has it. None if its parameter is no pointer.

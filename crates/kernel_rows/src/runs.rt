@@ -130,7 +130,7 @@ fn go_all<I: ItemCode>(
 }
 
 /// Runs so many items over some words.
-pub fn run<I: ItemCode>(
+pub fn run_launch<I: ItemCode>(
     alloc: Global,
     items: &I,
     count: u32,

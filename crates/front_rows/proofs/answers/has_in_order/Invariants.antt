@@ -1,0 +1,11 @@
+use Rattle.std.proofs.Common.{◌≤◌, length, ◌≡◌, ℕ, ◌+◌, ◌-◌, ◌*◌, ◌<◌}
+use denote.Text.{Utf8}
+use denote.Shadow.{shadow}
+use Rattle.front_rows.proofs.answers.has_in_order.Given as goal
+
+-- what is left of the text is text
+abbrev pub invariant-loop-word : goal.invariant-loop-word
+invariant-loop-word l =
+    (goal.iterator-loop-word).can_next l.word-iterator ×
+    (goal.iterator-loop-word).is_finite l.word-iterator ×
+    shadow (Utf8 l.rest)
