@@ -13,10 +13,10 @@ use Rattle.kir.specs.Measures.{branching, branching_in}
 use Rattle.kir.specs.Numbered.{AreBelow, OpBelow}
 use Rattle.kir.specs.Trees.{Operand, NumberOf, Op, Set, Calculate, Fit, Id, Load, Store, Check, Barrier, If, Loop, Break, Continue, Return, Call, Ops, NoOps, AndOp, KirCode}
 use Rattle.uniformity.specs.Marks as uniform
-use Rattle.uniformity.specs.Marks.{AreClosed, OpClosed, OnlyIf, gives_uniform}
+use Rattle.uniformity.specs.Marks.{AreClosed, OpClosed, OnlyIf, gives_uniform, is_uniform}
 use Rattle.vcode.specs.Code.{VOp, Fresh, Word, Wspawn, Compute, Tmc}
 use Rattle.simt_lowering.specs.Kept.{known_of_kernel, item_place}
-use Rattle.simt_lowering.specs.Lowered.{Known, own, held, mask_of, registers_for, further, past, id_count, id_end, is_uniform, counted, ops_end, op_end, item_lanes, zeroed, scalar, scalars, scalars_end, behind_kind, ids_code, body_start}
+use Rattle.simt_lowering.specs.Lowered.{Known, own, held, mask_of, registers_for, further, past, id_count, id_end, counted, ops_end, op_end, item_lanes, zeroed, scalar, scalars, scalars_end, behind_kind, ids_code, body_start}
 use Rattle.mask_laws.specs.Laws.{MayLower}
 use Rattle.mask_laws.proofs.Sets.{which, clash, both_true}
 use Rattle.mask_laws.specs.Spots.{Frame, First, Second, Round, Turning, Straight, Spot}

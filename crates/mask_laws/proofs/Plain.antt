@@ -15,9 +15,9 @@ use Rattle.ocl_program.specs.declared.exprs.Builtin.TheVariants.{WorkDim, Global
 use Rattle.kir.specs.Numbered.{OpBelow}
 use Rattle.kir.specs.Trees.{Operand, VariableOf, NumberOf, Op, Set, Calculate, Fit, Id, Load, Store}
 use Rattle.uniformity.specs.Marks as uniform
-use Rattle.uniformity.specs.Marks.{OnlyIf, gives_uniform, is_constant}
+use Rattle.uniformity.specs.Marks.{OnlyIf, gives_uniform, is_constant, is_uniform}
 use Rattle.vcode.specs.Code.{VOp, Compute, Fetch, Write}
-use Rattle.simt_lowering.specs.Lowered.{Known, own, held, is_uniform, kept_id, group_word, size_word, id_code, id_count, id_end, further, started, param_start, declared_start, shift_of, counted, param_count, op_end}
+use Rattle.simt_lowering.specs.Lowered.{Known, own, held, kept_id, group_word, size_word, id_code, id_count, id_end, further, started, param_start, declared_start, shift_of, counted, param_count, op_end}
 use Rattle.mask_laws.proofs.Sets.{which, both_true}
 use Rattle.mask_laws.specs.Spots.{Frame, First, Second, Round, Turning, Spot}
 use Rattle.mask_laws.proofs.Frames.{FrameClear, Clear, Whole}

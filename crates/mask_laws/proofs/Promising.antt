@@ -113,7 +113,7 @@ stops_now at code v a e = (0, ap (λ d. asked_at_once d []) e)
 
 -- and its item asks for it after the answers that the lane took in the run
 pub item_asks : (code : KirCode) (marks : ℕ → Bool) (setting : Setting) (bounds : List Bound) (at : vcode.Around) (s : Lane) (t : Lane) (answers : List ℕ) (a : Action)
-    → AsksAs code marks setting bounds at s → Comes (vcode.step at (kernel_code marks code)) s answers t → Asks (vcode.step at (kernel_code marks code)) t [] a
+    → AsksAs code (kernel_code marks code) setting bounds at s → Comes (vcode.step at (kernel_code marks code)) s answers t → Asks (vcode.step at (kernel_code marks code)) t [] a
     → Asks (kir.step setting) (kir_start code bounds) answers a
 item_asks code marks setting bounds at s t answers a as_item comes asks =
     as_item.no_more answers a (subst (λ xs. Asks (vcode.step at (kernel_code marks code)) s xs a) (append-nil answers) (asks_from_start (vcode.step at (kernel_code marks code)) [] a comes asks))

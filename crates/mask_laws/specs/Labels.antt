@@ -6,12 +6,12 @@ use Rattle.vx_base.specs.declared.types.Pos.{Pos}
 use Rattle.kir.specs.Loops.{loop_nesting}
 use Rattle.kir.specs.Trees as kir
 use Rattle.kir.specs.Trees.{Operand, VariableOf, NumberOf, Ops, NoOps, AndOp, KirCode}
-use Rattle.uniformity.specs.Marks.{is_constant}
+use Rattle.uniformity.specs.Marks.{is_constant, is_uniform}
 use Rattle.vcode.specs.declared.ops.Csr.{Csr}
 use Rattle.vcode.specs.declared.ops.Csr.TheVariants.{LaneNumber, MaskNow}
 use Rattle.vcode.specs.Code.{VOp, Fresh, Copy, Compute, Cut, Word, WordAt, Learn, Fetch, Write, IfZero, IfNot, Goto, Split, Join, Pred, Tmc, Wspawn, Bar, Trap, Enter, Leaves, Again}
 use Rattle.simt_lowering.specs.Kept.{known_of_kernel}
-use Rattle.simt_lowering.specs.Lowered.{Known, Part, own, held, mask_of, registers_for, further, past, is_uniform, id_code, address, counted, one_place, other_place, meet_place, step_place, head_place, body_place, loop_end, ops_end, op_end, item_lanes, zeroed, scalars, ids_code, body_start}
+use Rattle.simt_lowering.specs.Lowered.{Known, Part, own, held, mask_of, registers_for, further, past, id_code, address, counted, one_place, other_place, meet_place, step_place, head_place, body_place, loop_end, ops_end, op_end, item_lanes, zeroed, scalars, ids_code, body_start}
 use Rattle.mask_laws.specs.Spots.{Frame, First, Second, Round, Turning, Shape, Straight, Sides, Test, Meet, Nowhere, Spot}
 
 abbrev pub spot : VOp → Shape → (ℕ → Bool) → Spot

@@ -84,7 +84,7 @@ AsksNow k code w l a = Asks (vcode.step (around_of k l) code) (alone (w.lanes l)
 -- no item for which a lane is laid out asks for a barrier at this point any more, behind what the lane has taken in a run
 abbrev pub NeverAgain : (ℕ → Bool) → KirCode → Crew → VWarp → List (ℕ → ℕ) → ℕ → Point → Type 0
 NeverAgain marks code k w run l point =
-    (setting : Setting) (bounds : List Bound) (more : List ℕ) → AsksAs code marks setting bounds (around_of k l) (alone (w.lanes l) (numbers_in k (kernel_code marks code) l w run []))
+    (setting : Setting) (bounds : List Bound) (more : List ℕ) → AsksAs code (kernel_code marks code) setting bounds (around_of k l) (alone (w.lanes l) (numbers_in k (kernel_code marks code) l w run []))
     → Asks (kir.step setting) (kir_start code bounds) (answers_in k (kernel_code marks code) l w run ++ more) (Barrier point) → ⊥
 
 -- What holds behind each run from a warp `w` to a warp `w'`, of the kernel's code.
@@ -98,7 +98,7 @@ pub record RunsInStep (marks : ℕ → Bool) (code : KirCode) (k : Crew) (w : VW
   -- each lane that has an item is at a place of the code
   pub inside : (l : ℕ) → has_lane w.mask l ≡ true → (op : VOp) × ((ops : List VOp) × (drop (w'.lanes l).place (kernel_code marks code) ≡ op ∷ ops))
   -- what an active lane asks for next, its item asks for
-  pub asks : (l : ℕ) (setting : Setting) (bounds : List Bound) (a : Action) → has_lane w'.mask l ≡ true → AsksAs code marks setting bounds (around_of k l) (alone (w.lanes l) (numbers_in k (kernel_code marks code) l w run []))
+  pub asks : (l : ℕ) (setting : Setting) (bounds : List Bound) (a : Action) → has_lane w'.mask l ≡ true → AsksAs code (kernel_code marks code) setting bounds (around_of k l) (alone (w.lanes l) (numbers_in k (kernel_code marks code) l w run []))
       → AsksNow k (kernel_code marks code) w' l a → Asks (kir.step setting) (kir_start code bounds) (answers_in k (kernel_code marks code) l w run) a
   -- the stack has at most 64 entries
   pub room : length w'.stack ≤ 64
