@@ -14,9 +14,9 @@ use Rattle.ocl_program.specs.declared.exprs.Builtin.TheVariants.{WorkDim, Global
 use Rattle.kir.specs.Loops.{loop_nesting}
 use Rattle.kir.specs.Measures.{sites, sites_in}
 use Rattle.kir.specs.Trees.{Operand, VariableOf, NumberOf, Op, Set, Calculate, Fit, Id, Load, Store, Check, Barrier, If, Loop, Break, Continue, Return, Call, Ops, NoOps, AndOp, KirCode}
+use Rattle.uniformity.specs.Marks.{is_uniform}
 use Rattle.vcode.specs.Code.{VOp, Bar, Tmc}
 use Rattle.simt_lowering.specs.Kept.{known_of_kernel}
-use Rattle.uniformity.specs.Marks.{is_uniform}
 use Rattle.simt_lowering.specs.Lowered.{Known, Part, own, mask_of, registers_for, further, kept_id, group_word, size_word, id_code, started, param_start, declared_start, counted, param_count, checked, if_code, loop_code, ops_end, op_end, lowered, lowered_op, zeroed, scalar, scalars, ids_code, body_start, kernel_code}
 
 -- how often a number is in a list, and how often its barrier is in code

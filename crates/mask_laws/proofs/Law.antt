@@ -15,18 +15,19 @@ use Rattle.vcode.specs.Machine as vcode
 use Rattle.vcode.specs.Machine.{Lane, lane, step_from}
 use Rattle.simt_lowering.specs.Kept.{spawn_place}
 use Rattle.simt_lowering.specs.Lowered.{kernel_code}
-use Rattle.warp_code.specs.Warps.{Crew, VWarp, around_of, warp_step, warp_start}
-use Rattle.warp_code.specs.Runs.{Runs, Passes, answers_in, numbers_in, alone, Comes}
+use Rattle.warp_code.specs.Warps.{Crew, VWarp, Stepped, around_of, told, lane_behind, moved, warp_from, warp_step, warp_start}
+use Rattle.warp_code.specs.Runs.{GoesOn, Runs, Passes, answers_in, numbers_in, alone, Comes}
 use Rattle.mask_laws.specs.Spots.{Spot}
 use Rattle.mask_laws.specs.Labels.{kernel_spots, spot_in}
 use Rattle.mask_laws.specs.Honest.{IsHonestStep, IsHonestRun}
-use Rattle.mask_laws.specs.Laws.{MayLower, HasItems, first_outcomes, first_place, AsksNow, NeverAgain, RunsInStep, InStep, WarpsInStep}
-use Rattle.mask_laws.proofs.Sets.{In, Out}
+use Rattle.mask_laws.specs.Laws.{MayLower, HasItems, first_outcomes, first_place, AsksNow, alone_behind, NeverAgain, RunsInStep, InStep, WarpsInStep}
+use Rattle.mask_laws.proofs.Sets.{In, Out, moved_in}
 use Rattle.mask_laws.proofs.Frames.{Inv}
 use Rattle.mask_laws.proofs.Fits.{IsTrap, Fine}
 use Rattle.mask_laws.proofs.Spelling.{kernel_spells}
 use Rattle.mask_laws.proofs.KernelLaw.{kernel_fits}
-use Rattle.mask_laws.proofs.RunLaw.{op_stands, HonestRun, step_fine, run_keeps, run_comes}
+use Rattle.mask_laws.proofs.RunLaw.{op_stands, HonestRun, step_fine, idle_stays, run_keeps, run_comes}
+use Rattle.mask_laws.proofs.Lockstep.{lanes_after}
 use Rattle.mask_laws.proofs.Comings.{asks_from_there}
 use Rattle.mask_laws.proofs.BarLaw.{bar_facts, never_there}
 use Rattle.mask_laws.proofs.Counting.{one_place_each}
@@ -79,6 +80,16 @@ module _ (marks : ℕ → Bool) (code : KirCode) (may : MayLower marks code) (k 
       step_at_lane l op ops' is_in stands =
           ap (λ c. step_from (around_of k l) c (w'.lanes l).place (w'.lanes l).registers (w'.lanes l).turns []) (ap (λ p. drop p ops) (now.here l is_in) ∙ stands)
 
+      -- a step that goes on, for an active lane
+      moves_now : (answers : ℕ → ℕ) (l : ℕ) (op : VOp) (ops' : List VOp) → In w'.mask l → drop w'.place ops ≡ op ∷ ops' → GoesOn (warp_step k ops answers w').outcome
+          → (warp_step k ops answers w').warp.lanes l ≡ alone_behind k ops l (w'.lanes l) (answers l) (told k w'.mask op)
+      moves_now answers l op ops' is_in stands =
+          subst (λ (s : Stepped). GoesOn s.outcome → s.warp.lanes l ≡ alone_behind k ops l (w'.lanes l) (answers l) (told k w'.mask op)) (sym (ap (λ c. warp_from k c answers w') stands))
+          (λ goes.
+          lanes_after k op (moved k op answers w') w' l is_in goes ∙ moved_in k op answers w' l is_in
+          ∙ ap (λ c. lane_behind (answers l) (w'.lanes l) (step_from (around_of k l) c (w'.lanes l).place (w'.lanes l).registers (w'.lanes l).turns (told k w'.mask op)))
+          (sym (ap (λ p. drop p ops) (now.here l is_in) ∙ stands)))
+
       faults : (l : ℕ) (pos : Pos) → In w'.mask l → (spots w'.place).op ≡ Trap pos → AsksNow k ops w' l (Fault pos)
       faults l pos is_in e =
           stops_now (around_of k l) ops (w'.lanes l) (Fault pos) (step_at_lane l (Trap pos) op_now.0 is_in (op_now.1 ∙ ap (λ o. o ∷ op_now.0) e))
@@ -116,6 +127,9 @@ module _ (marks : ℕ → Bool) (code : KirCode) (may : MayLower marks code) (k 
       pub in_step : RunsInStep marks code k w run w'
       in_step = record {
         comes = come;
+        moves = moves_now;
+        stays = λ answers l is_out goes.
+            idle_stays (kernel_spots marks code) ops (kernel_spells marks code) marks w.mask (kernel_fits marks code may) k has.few low w' answers l now is_out goes;
         active = now.inside;
         here = now.here;
         inside = λ l has_item. op_there (kernel_spots marks code) ops (kernel_spells marks code) marks (kernel_fits marks code may) (around_of k l) (w'.lanes l).place (w'.lanes l).turns (may_now l has_item);

@@ -28,3 +28,4 @@ pub mod Counting
 pub mod Places
 pub mod Cleaning
 pub mod WorkedKernel
+pub mod Accessing

@@ -7,9 +7,9 @@ use Rattle.vx_isa.specs.declared.warps.Step.TheVariants as step
 use Rattle.vcode.specs.Code.{VOp, Tmc}
 use Rattle.vcode.specs.Machine as vcode
 use Rattle.vcode.specs.Machine.{Lane}
-use Rattle.warp_code.specs.Warps.{Crew, VLane, VWarp, around_of, moved, ends_or_goes, warp_op, warp_from, warp_step}
+use Rattle.warp_code.specs.Warps.{Crew, VLane, VWarp, Stepped, around_of, moved, ends_or_goes, warp_op, warp_from, warp_step}
 use Rattle.warp_code.specs.Runs.{GoesOn, Runs, answer_at, told_at, answers_in, numbers_in, alone, Comes, Stays}
-use Rattle.mask_laws.proofs.Sets.{moved_out}
+use Rattle.mask_laws.proofs.Sets.{Out, moved_out}
 use Rattle.mask_laws.specs.Spots.{Shape, Straight, Sides, Test, Meet, Nowhere, Spot}
 use Rattle.mask_laws.proofs.Frames.{ShapeHeld, Inv}
 use Rattle.mask_laws.proofs.Fits.{FitsAt, IsNone, Fits, FineBy, Fine}
@@ -98,6 +98,15 @@ module _ (whole : List Spot) (code : List VOp) (spelled : ops_of whole ≡ code)
   run_keeps [] w w' inv honest runs = subst InStep runs inv
   run_keeps (answers ∷ later) w w' inv honest runs =
       run_keeps later (warp_step k code answers w).warp w' (next_in_step w answers inv honest.0 runs.0) honest.1 runs.1
+
+  -- a step that goes on leaves a lane that is not active as it is
+  pub idle_stays : (w : VWarp) (answers : ℕ → ℕ) (l : ℕ) → InStep w → Out w.mask l → GoesOn (warp_step k code answers w).outcome → (warp_step k code answers w).warp.lanes l ≡ w.lanes l
+  idle_stays w answers l inv is_out =
+      subst (λ (s : Stepped). GoesOn s.outcome → s.warp.lanes l ≡ w.lanes l) (sym (step_is w answers inv))
+      (λ goes.
+      others_after k (op_at w) (moved k (op_at w) answers w) w l
+      (begins_none (spot_in whole) uni all k w (moved k (op_at w) answers w) (op_at w) (spot_in whole w.place).shape (spot_in whole w.place).agree (spot_in whole w.place).shared (fits w.place) inv.held goes) goes
+      ∙ moved_out k (op_at w) answers w l is_out)
 
   -- one step of the warp, for one of its lanes
   lane_comes : (w : VWarp) (answers : ℕ → ℕ) (l : ℕ) (numbers : List ℕ) (t : Lane) (later : List ℕ) → InStep w → GoesOn (warp_step k code answers w).outcome

@@ -9,10 +9,10 @@ use Rattle.ocl_program.specs.declared.exprs.Builtin.TheVariants.{WorkDim, Global
 use Rattle.vx_base.specs.declared.types.Alu.TheVariants.{Sltu}
 use Rattle.kir.specs.Loops.{loop_nesting}
 use Rattle.kir.specs.Trees.{Operand, VariableOf, NumberOf, Op, Set, Calculate, Fit, Id, Load, Store, Check, Barrier, If, Loop, Break, Continue, Return, Call, Ops, NoOps, AndOp, KirCode}
+use Rattle.uniformity.specs.Marks.{is_uniform}
 use Rattle.vcode.specs.declared.ops.Csr.TheVariants.{MaskNow}
 use Rattle.vcode.specs.Code.{VOp, Fresh, Copy, Compute, Word, Learn, IfZero, IfNot, Goto, Split, Join, Pred, Tmc, Wspawn, Trap, Enter, Leaves, Again}
 use Rattle.simt_lowering.specs.Kept.{known_of_kernel}
-use Rattle.uniformity.specs.Marks.{is_uniform}
 use Rattle.simt_lowering.specs.Lowered.{Known, Part, own, held, mask_of, registers_for, further, kept_id, group_word, size_word, id_code, counted, checked, other_place, meet_place, step_place, head_place, loop_end, if_code, loop_code, ops_end, op_end, lowered, lowered_op, item_lanes, zeroed, scalar, scalars, ids_code, body_start, kernel_code}
 use Rattle.mask_laws.specs.Spots.{Frame, Straight, Spot}
 use Rattle.mask_laws.specs.Labels.{spot, flows, straight, bare, Labelled, if_spots, loop_spots, check_spots, load_code, loads_constant, flows_all, labelled, labelled_op, hidden, opening_code, kernel_spots, ops_of}

@@ -24,8 +24,8 @@ use Rattle.vcode.specs.Machine as vcode
 use Rattle.vcode.specs.Machine.{Lane}
 use Rattle.simt_lowering.specs.Kept.{AsksAs, item_place, spawn_place}
 use Rattle.simt_lowering.specs.Lowered.{kernel_code}
-use Rattle.warp_code.specs.Warps.{Crew, VWarp, around_of, warp_step, warp_start}
-use Rattle.warp_code.specs.Runs.{Runs, Passes, answers_in, numbers_in, alone, Comes}
+use Rattle.warp_code.specs.Warps.{Crew, VLane, VWarp, around_of, told, lane_behind, warp_step, warp_start}
+use Rattle.warp_code.specs.Runs.{GoesOn, Runs, Passes, answers_in, numbers_in, alone, Comes}
 use Rattle.mask_laws.specs.Honest.{IsHonestStep, IsHonestRun}
 
 -- What the law asks of a kernel and of the marks that it was lowered by: the marks are closed under what its operations write, and at most 31
@@ -81,6 +81,10 @@ pub record AtItems (k : Crew) (w : VWarp) : Type 0 where
 abbrev pub AsksNow : Crew → List VOp → VWarp → ℕ → Action → Type 0
 AsksNow k code w l a = Asks (vcode.step (around_of k l) code) (alone (w.lanes l) []) [] a
 
+-- a lane behind one step alone, where what it asks for has this answer, and its control registers answer these numbers
+abbrev pub alone_behind : Crew → List VOp → ℕ → VLane → ℕ → List ℕ → VLane
+alone_behind k code l v answer numbers = lane_behind answer v (vcode.step (around_of k l) code (alone v numbers))
+
 -- no item for which a lane is laid out asks for a barrier at this point any more, behind what the lane has taken in a run
 abbrev pub NeverAgain : (ℕ → Bool) → KirCode → Crew → VWarp → List (ℕ → ℕ) → ℕ → Point → Type 0
 NeverAgain marks code k w run l point =
@@ -92,6 +96,12 @@ pub record RunsInStep (marks : ℕ → Bool) (code : KirCode) (k : Crew) (w : VW
   -- each lane has come alone to where it stands, with the answers that it took and what its control registers answered, whatever comes later
   pub comes : (l : ℕ) (later : List ℕ)
       → Comes (vcode.step (around_of k l) (kernel_code marks code)) (alone (w.lanes l) (numbers_in k (kernel_code marks code) l w run later)) (answers_in k (kernel_code marks code) l w run) (alone (w'.lanes l) later)
+  -- A step that goes on is one step alone of each active lane, told what its control registers answer there, and none of the others.
+  pub moves : (answers : ℕ → ℕ) (l : ℕ) (op : VOp) (ops : List VOp) → has_lane w'.mask l ≡ true → drop w'.place (kernel_code marks code) ≡ op ∷ ops
+      → GoesOn (warp_step k (kernel_code marks code) answers w').outcome
+      → (warp_step k (kernel_code marks code) answers w').warp.lanes l ≡ alone_behind k (kernel_code marks code) l (w'.lanes l) (answers l) (told k w'.mask op)
+  pub stays : (answers : ℕ → ℕ) (l : ℕ) → has_lane w'.mask l ≡ false → GoesOn (warp_step k (kernel_code marks code) answers w').outcome
+      → (warp_step k (kernel_code marks code) answers w').warp.lanes l ≡ w'.lanes l
   -- active lanes have items, and stand where the warp does
   pub active : (l : ℕ) → has_lane w'.mask l ≡ true → has_lane w.mask l ≡ true
   pub here : (l : ℕ) → has_lane w'.mask l ≡ true → (w'.lanes l).place ≡ w'.place

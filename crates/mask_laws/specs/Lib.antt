@@ -3,3 +3,4 @@ pub mod Labels
 pub mod Honest
 pub mod Laws
 pub mod Clean
+pub mod Accesses

@@ -1,4 +1,5 @@
 //! The laws of a warp over lowered code, each as a contract. The functions themselves do nothing.
+ghost use Rattle.mask_laws.specs.Accesses.{AccessesAreNamed};
 ghost use Rattle.mask_laws.specs.Clean.{LanesBeginClean};
 ghost use Rattle.mask_laws.specs.Laws.{WarpsInStep};
 
@@ -12,4 +13,9 @@ pub fn warps_are_in_step()
 /// the operation that leaves the lanes that have an item.
 pub fn lanes_begin_clean()
     ensures { LanesBeginClean }
+{}
+
+/// Each access of an active lane is to a word that the launch block has, or is what the lane's item asks to load or to store next.
+pub fn accesses_are_named()
+    ensures { AccessesAreNamed }
 {}
