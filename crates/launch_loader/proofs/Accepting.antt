@@ -6,7 +6,7 @@ use Rattle.std.proofs.lemmas.Option.{slice_get-map}
 use Rattle.vx_base.specs.Values.{elem_bytes}
 use Rattle.vx_layout.specs.Addresses.{Span, in_lines}
 use Rattle.vx_layout.specs.Launching.{Accepted}
-use Rattle.launch_loader.specs.declared.plans.BufShape.{BufShape}
+use Rattle.launch_loader.specs.declared.buffers.BufShape.{BufShape}
 use Rattle.launch_loader.specs.Checking.{Passes}
 use Rattle.launch_loader.specs.Conditions.{Case, CanCheck, layout_of, span_of, shared_bytes}
 use Rattle.launch_loader.specs.Words.{AreWordArgs, AreWords}

@@ -10,9 +10,9 @@ use Rattle.vx_base.specs.declared.types.ParamKind.TheVariants.{Scalar, Pointer}
 use Rattle.vx_base.specs.declared.types.Space.TheVariants as space
 use Rattle.item_acts.specs.declared.acts.Bound.{Bound}
 use Rattle.vx_layout.specs.Launching.{IsBuffer, Fits, locals_before}
-use Rattle.launch_loader.specs.declared.plans.Arg.{Arg}
-use Rattle.launch_loader.specs.declared.plans.Arg.TheVariants as arg
-use Rattle.launch_loader.specs.declared.plans.BufShape.{BufShape}
+use Rattle.launch_plans.specs.declared.plans.Arg.{Arg}
+use Rattle.launch_plans.specs.declared.plans.Arg.TheVariants as arg
+use Rattle.launch_loader.specs.declared.buffers.BufShape.{BufShape}
 use Rattle.launch_loader.specs.Conditions.{span_of, count_of, bound_of, bounds_from}
 use Rattle.launch_loader.specs.Refusals.{AllFit, same_elem, has_elem, takes, fits_both}
 use Rattle.launch_loader.specs.Words.{IsWordArg, IsWordIn, AreWordArgs}

@@ -9,9 +9,9 @@ use Rattle.vx_base.specs.declared.types.ParamKind.TheVariants.{Scalar, Pointer}
 use Rattle.vx_base.specs.declared.types.Space.TheVariants as space
 use Rattle.vx_layout.specs.Addresses.{in_words}
 use Rattle.vx_layout.specs.Launching.{param_sizes, with_local}
-use Rattle.launch_loader.specs.declared.plans.Arg.{Arg}
-use Rattle.launch_loader.specs.declared.plans.Arg.TheVariants as arg
-use Rattle.launch_loader.specs.declared.plans.BufShape.{BufShape}
+use Rattle.launch_plans.specs.declared.plans.Arg.{Arg}
+use Rattle.launch_plans.specs.declared.plans.Arg.TheVariants as arg
+use Rattle.launch_loader.specs.declared.buffers.BufShape.{BufShape}
 use Rattle.launch_loader.specs.Checking.{local_bytes}
 use Rattle.launch_loader.specs.Conditions.{Case, bound_of, bounds_from}
 use Rattle.launch_loader.specs.Locals.{given_bytes, given_at, words_below}

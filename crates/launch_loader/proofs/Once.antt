@@ -6,8 +6,8 @@ use Rattle.vx_base.specs.declared.types.ParamKind.{ParamKind}
 use Rattle.item_acts.specs.declared.acts.Range.{Range}
 use Rattle.vx_layout.specs.Launching.{Accepted}
 use Rattle.launch_loader.specs.declared.checked.Checked.{Checked}
-use Rattle.launch_loader.specs.declared.plans.Arg.{Arg}
-use Rattle.launch_loader.specs.declared.plans.BufShape.{BufShape}
+use Rattle.launch_plans.specs.declared.plans.Arg.{Arg}
+use Rattle.launch_loader.specs.declared.buffers.BufShape.{BufShape}
 use Rattle.launch_loader.specs.declared.faults.LaunchFault.{LaunchFault}
 use Rattle.launch_loader.specs.declared.faults.LaunchFault.TheVariants.{Arguments, Argument, Both, Divide, GroupSize, Groups, LocalMemory, Memory}
 use Rattle.launch_loader.specs.Checking.{IsChecked, IsRefused, IsUnchecked, Passes, RefusesLocals, local_bytes}

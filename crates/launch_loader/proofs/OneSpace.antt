@@ -9,9 +9,9 @@ use Rattle.vx_base.specs.declared.types.Space.{Space}
 use Rattle.vx_base.specs.declared.types.Space.TheVariants as space
 use Rattle.item_acts.specs.declared.acts.Bound.{Bound}
 use Rattle.vx_layout.specs.Launching.{NamesIn, is_local}
-use Rattle.launch_loader.specs.declared.plans.Arg.{Arg}
-use Rattle.launch_loader.specs.declared.plans.Arg.TheVariants as arg
-use Rattle.launch_loader.specs.declared.plans.BufShape.{BufShape}
+use Rattle.launch_plans.specs.declared.plans.Arg.{Arg}
+use Rattle.launch_plans.specs.declared.plans.Arg.TheVariants as arg
+use Rattle.launch_loader.specs.declared.buffers.BufShape.{BufShape}
 use Rattle.launch_loader.specs.declared.spaces.BufferUse.{BufferUse}
 use Rattle.launch_loader.specs.Conditions.{bound_of, bounds_from}
 use Rattle.launch_loader.specs.Refusals.{AllFit, fits_both}

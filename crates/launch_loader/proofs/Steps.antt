@@ -1,16 +1,9 @@
 -- Facts of all numbers below one, for one number more.
-use Rattle.std.proofs.Common.{ℕ, ◌+◌, ◌<◌, inl, inr, sym, subst, refl, arith}
+use Rattle.std.proofs.Common.{ℕ, ◌+◌, ◌<◌, inl, inr, sym, subst, arith}
 use Rattle.std.proofs.lemmas.Bool.{cases_eq}
-use Rattle.launch_loader.specs.Conditions.{IsPowerOfTwo}
 
 pub one_more : (P : ℕ → Type 0) (n : ℕ) → ((k : ℕ) → k < n → P k) → P n → (k : ℕ) → k < n + 1 → P k
 one_more P n before here k less = elim (cases_eq k n) [
   | inl same ↦ subst P (sym same) here
   | inr differ ↦ before k (omega arith)
 ]
-
-pub power_4 : IsPowerOfTwo 4
-power_4 = (2, refl)
-
-pub power_16 : IsPowerOfTwo 16
-power_16 = (4, refl)

@@ -1,4 +1,4 @@
--- Which machines there are, which launches can be checked, and where the arrays of a launch lie.
+-- Which launches can be checked, and where the arrays of a launch lie.
 use Rattle.std.specs.Prelude.{◌≡◌, ℕ, suc, ◌+◌, ◌*◌, ◌%◌, ◌^◌, ◌<◌, ◌≤◌, max, List, [], ◌∷◌, length, map, slice_get, slice_index, Option, None, Some}
 use Rattle.vx_base.specs.Values.{elem_bytes}
 use Rattle.vx_base.specs.declared.types.ParamKind.{ParamKind}
@@ -7,31 +7,12 @@ use Rattle.item_acts.specs.declared.acts.Bound.TheVariants.{Value, Array}
 use Rattle.vx_isa.specs.declared.image.Image.{Image}
 use Rattle.vx_layout.specs.Addresses.{Span, in_lines}
 use Rattle.vx_layout.specs.Launching.{Plan as Layout, ApartByLines, locals_before}
-use Rattle.launch_loader.specs.declared.plans.Arg.{Arg}
-use Rattle.launch_loader.specs.declared.plans.Arg.TheVariants.{Buffer, Int, Local}
-use Rattle.launch_loader.specs.declared.plans.BufShape.{BufShape}
-use Rattle.launch_loader.specs.declared.plans.Plan.{Plan}
-use Rattle.launch_loader.specs.declared.shapes.Shape.{Shape}
-
-abbrev pub IsPowerOfTwo : ℕ → Type 0
-IsPowerOfTwo n = (k : ℕ) × (n ≡ 2 ^ k)
-
--- the machine is within its limits
-pub record IsShape (s : Shape) : Type 0 where
-  pub some_cores : 1 ≤ s.cores
-  pub cores : s.cores ≤ 8
-  pub some_warps : 1 ≤ s.warps
-  pub warps : s.warps ≤ 16
-  pub some_lanes : 1 ≤ s.lanes
-  pub lanes : s.lanes ≤ 32
-  pub some_ways : 1 ≤ s.ways
-  pub ways : s.ways ≤ 8
-  pub sets : s.sets ≤ 64
-  pub sets_power : IsPowerOfTwo s.sets
-  pub banks : s.banks ≤ 16
-  pub banks_power : IsPowerOfTwo s.banks
-  pub some_turns : 1 ≤ s.turns
-  pub turns : s.turns ≤ 2 ^ 32
+use Rattle.launch_plans.specs.declared.plans.Arg.{Arg}
+use Rattle.launch_plans.specs.declared.plans.Arg.TheVariants.{Buffer, Int, Local}
+use Rattle.launch_loader.specs.declared.buffers.BufShape.{BufShape}
+use Rattle.launch_plans.specs.declared.plans.Plan.{Plan}
+use Rattle.launch_plans.specs.declared.shapes.Shape.{Shape}
+use Rattle.launch_plans.specs.Shapes.{IsShape}
 
 -- a launch of an image on a machine, with the buffers that there are
 pub record Case : Type 0 where

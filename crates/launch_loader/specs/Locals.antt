@@ -5,8 +5,8 @@ use Rattle.vx_base.specs.declared.types.ParamKind.{ParamKind}
 use Rattle.vx_base.specs.declared.types.ParamKind.TheVariants.{Pointer}
 use Rattle.vx_base.specs.declared.types.Space.TheVariants as space
 use Rattle.vx_layout.specs.Addresses.{in_words}
-use Rattle.launch_loader.specs.declared.plans.Arg.{Arg}
-use Rattle.launch_loader.specs.declared.plans.Arg.TheVariants.{Local}
+use Rattle.launch_plans.specs.declared.plans.Arg.{Arg}
+use Rattle.launch_plans.specs.declared.plans.Arg.TheVariants.{Local}
 
 -- the bytes of the array that is given for a parameter, and 0 where none is
 abbrev pub given_bytes : ParamKind → Arg → ℕ

@@ -6,9 +6,9 @@ use Rattle.vx_base.specs.declared.types.ParamKind.{ParamKind}
 use Rattle.vx_base.specs.declared.types.ParamKind.TheVariants.{Scalar, Pointer}
 use Rattle.item_acts.specs.declared.acts.Range.{Range}
 use Rattle.vx_layout.specs.Launching.{is_local, group_size, group_count}
-use Rattle.launch_loader.specs.declared.plans.Arg.{Arg}
-use Rattle.launch_loader.specs.declared.plans.Arg.TheVariants as arg
-use Rattle.launch_loader.specs.declared.plans.BufShape.{BufShape}
+use Rattle.launch_plans.specs.declared.plans.Arg.{Arg}
+use Rattle.launch_plans.specs.declared.plans.Arg.TheVariants as arg
+use Rattle.launch_loader.specs.declared.buffers.BufShape.{BufShape}
 use Rattle.launch_loader.specs.declared.faults.LaunchFault.{LaunchFault}
 use Rattle.launch_loader.specs.declared.faults.LaunchFault.TheVariants.{Arguments, Argument, Both, Divide, GroupSize, Groups}
 use Rattle.launch_loader.specs.Spaces.{IsBoth, NoneBoth}

@@ -4,8 +4,8 @@ use Rattle.vx_base.specs.declared.types.ParamKind.{ParamKind}
 use Rattle.vx_base.specs.declared.types.ParamKind.TheVariants.{Pointer}
 use Rattle.vx_base.specs.declared.types.Space.{Space}
 use Rattle.vx_base.specs.declared.types.Space.TheVariants.{Global, Constant}
-use Rattle.launch_loader.specs.declared.plans.Arg.{Arg}
-use Rattle.launch_loader.specs.declared.plans.Arg.TheVariants.{Buffer}
+use Rattle.launch_plans.specs.declared.plans.Arg.{Arg}
+use Rattle.launch_plans.specs.declared.plans.Arg.TheVariants.{Buffer}
 use Rattle.launch_loader.specs.declared.spaces.BufferUse.{BufferUse}
 
 -- the one is `__constant` and the other `__global`

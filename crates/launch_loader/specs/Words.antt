@@ -1,7 +1,7 @@
 -- Numbers that are 32-bit words by their types.
 use Rattle.std.specs.Prelude.{ℕ, ◌^◌, ◌<◌, List, slice_get, slice_index, Option, None, Some, ⊤}
-use Rattle.launch_loader.specs.declared.plans.Arg.{Arg}
-use Rattle.launch_loader.specs.declared.plans.Arg.TheVariants.{Int}
+use Rattle.launch_plans.specs.declared.plans.Arg.{Arg}
+use Rattle.launch_plans.specs.declared.plans.Arg.TheVariants.{Int}
 
 -- a number that is given for a parameter
 abbrev pub IsWordArg : Arg → Type 0

@@ -3,7 +3,8 @@ ghost use Rattle.std.specs.Prelude.{◌≡◌, ◌^◌, ◌<◌, length, slice_g
 ghost use Rattle.vx_layout.specs.Launching.{is_local};
 ghost use Rattle.launch_loader.specs.Refusals.{AllFit, IsMisfit, fits_at, has_elem, same_elem, takes};
 
-use crate::plans::{Arg, BufShape};
+use crate::buffers::BufShape;
+use launch_plans::Arg;
 use vx_base::{Elem, ParamKind, Space};
 
 fn same_type(one: Elem, other: Elem) -> bool

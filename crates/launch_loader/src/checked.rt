@@ -5,13 +5,13 @@ ghost use Rattle.launch_loader.specs.Checking.{IsChecked, IsRefused, IsUnchecked
 ghost use Rattle.launch_loader.specs.Conditions.{CanCheck, case_of, layout_of};
 ghost use Rattle.vx_layout.specs.Launching.{Accepted};
 
+use crate::buffers::BufShapeList;
 use crate::checks::check_arguments;
 use crate::faults::LaunchFault;
 use crate::locals::all_local_bytes;
-use crate::plans::{ArgList, BufShapeList, Plan};
 use crate::ranges::check_range;
-use crate::shapes::Shape;
 use crate::words::{are_word_args, are_words};
+use launch_plans::{ArgList, Plan, Shape};
 use std::alloc::Global;
 use vx_isa::Image;
 

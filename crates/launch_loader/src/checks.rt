@@ -3,9 +3,10 @@ ghost use Rattle.std.specs.Prelude.{◌^◌, ◌<◌, ◌≤◌, length, MatchRe
 ghost use Rattle.launch_loader.specs.Refusals.{RefusesArguments, TakesArguments};
 
 use crate::arguments::first_misfit;
+use crate::buffers::BufShape;
 use crate::faults::LaunchFault;
-use crate::plans::{Arg, BufShape};
 use crate::spaces::first_both;
+use launch_plans::Arg;
 use vx_base::ParamKind;
 
 /// Whether the parameters of a kernel take these arguments.

@@ -4,7 +4,7 @@ ghost use Rattle.vx_base.specs.Values.{elem_bytes};
 ghost use Rattle.vx_layout.specs.Addresses.{in_words};
 ghost use Rattle.launch_loader.specs.Locals.{declared_words, given_at, given_bytes, given_words};
 
-use crate::plans::Arg;
+use launch_plans::Arg;
 use vx_base::{Elem, ParamKind, Space};
 
 /// Bytes, rounded up to whole words.

@@ -2,7 +2,7 @@
 ghost use Rattle.std.specs.Prelude.{◌≡◌, ◌^◌, ◌<◌, true, length, MatchBool, MatchOption};
 ghost use Rattle.launch_loader.specs.Spaces.{ClashesEarlier, IsBoth, IsClear, NoneBoth, are_other, clash_at, named_at};
 
-use crate::plans::Arg;
+use launch_plans::Arg;
 use vx_base::{ParamKind, Space};
 
 /// A buffer that an argument names, and the space of its parameter.

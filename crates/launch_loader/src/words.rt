@@ -2,7 +2,7 @@
 ghost use Rattle.std.specs.Prelude.{slice_get};
 ghost use Rattle.launch_loader.specs.Words.{AreWordArgs, AreWords, IsWordArg, IsWordIn};
 
-use crate::plans::Arg;
+use launch_plans::Arg;
 
 /// Sizes are words.
 pub fn are_words(sizes: &[u32])

@@ -8,12 +8,13 @@ use Rattle.vx_isa.specs.declared.image.Image.{Image}
 use Rattle.vx_layout.specs.Addresses.{Span, has}
 use Rattle.vx_layout.specs.Launching.{ApartByLines}
 use Rattle.vx_layout.proofs.Spans.{has_from, has_below}
-use Rattle.launch_loader.specs.Conditions.{CanCheck, IsShape, case_of, span_of}
-use Rattle.launch_loader.specs.declared.plans.Arg.{Arg}
-use Rattle.launch_loader.specs.declared.plans.Arg.TheVariants.{Buffer}
-use Rattle.launch_loader.specs.declared.plans.BufShape.{BufShape}
-use Rattle.launch_loader.specs.declared.plans.Plan.{Plan}
-use Rattle.launch_loader.specs.declared.shapes.Shape.{Shape}
+use Rattle.launch_loader.specs.Conditions.{CanCheck, case_of, span_of}
+use Rattle.launch_plans.specs.declared.plans.Arg.{Arg}
+use Rattle.launch_plans.specs.declared.plans.Arg.TheVariants.{Buffer}
+use Rattle.launch_loader.specs.declared.buffers.BufShape.{BufShape}
+use Rattle.launch_plans.specs.declared.plans.Plan.{Plan}
+use Rattle.launch_plans.specs.declared.shapes.Shape.{Shape}
+use Rattle.launch_plans.specs.Shapes.{IsShape}
 use Rattle.loader_tests.specs.Launches.{AreKnown, IsPlain, IsSmall, is_known, two_buffers}
 
 -- what holds of all below a number and of the number holds of all below one more

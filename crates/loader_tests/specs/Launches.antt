@@ -2,10 +2,10 @@
 use Rattle.std.specs.Prelude.{◌≡◌, ℕ, ◌^◌, ◌<◌, ◌≤◌, Bool, true, nat_lt, List, [], ◌∷◌, length, slice_get, slice_index, Option, Some}
 use Rattle.vx_base.specs.declared.types.Elem.TheVariants.{Int, Uchar}
 use Rattle.vx_isa.specs.declared.image.Image.{Image}
-use Rattle.launch_loader.specs.declared.plans.Arg.{Arg}
-use Rattle.launch_loader.specs.declared.plans.Arg.TheVariants.{Buffer}
-use Rattle.launch_loader.specs.declared.plans.BufShape.{BufShape}
-use Rattle.launch_loader.specs.declared.plans.Plan.{Plan}
+use Rattle.launch_plans.specs.declared.plans.Arg.{Arg}
+use Rattle.launch_plans.specs.declared.plans.Arg.TheVariants.{Buffer}
+use Rattle.launch_loader.specs.declared.buffers.BufShape.{BufShape}
+use Rattle.launch_plans.specs.declared.plans.Plan.{Plan}
 
 -- 16 ints, and 64 bytes behind them
 abbrev pub two_buffers : List BufShape

@@ -1,7 +1,8 @@
 //! Arguments that parameters take, and arguments that they do not.
 use crate::launches::{Answer, ONE_ITEM, usual_answer};
 use item_acts::Range;
-use launch_loader::{Arg, LaunchFault};
+use launch_loader::LaunchFault;
+use launch_plans::Arg;
 use std::alloc::Global;
 use std::test::Fail;
 use vx_base::{Elem, Memory, ParamKind, Space};

@@ -1,12 +1,12 @@
 //! The check of a launch: with no words of code, with two buffers (0 has ints, and 1 bytes), and in three dimensions.
 ghost use Rattle.std.specs.Prelude.{◌≡◌, ◌≤◌, length, slice_get, IfOk, MatchBool, MatchOption, ⊤};
-ghost use Rattle.launch_loader.specs.Conditions.{IsShape};
+ghost use Rattle.launch_plans.specs.Shapes.{IsShape};
 ghost use Rattle.loader_tests.specs.Launches.{AreKnown, AreSizes, IsPlain, IsSmall, is_known, two_buffers};
 
 use item_acts::Range;
 use launch_loader::checked::check_launch;
-use launch_loader::shapes::usual_shape;
-use launch_loader::{Arg, ArgList, BufShape, BufShapeList, LaunchFault, Plan, Shape};
+use launch_loader::{BufShape, BufShapeList, LaunchFault};
+use launch_plans::{Arg, Plan, Shape, usual_shape};
 use std::alloc::Global;
 use vx_base::{Elem, KindList, ListOf, Memory, ParamKind, SizeList};
 use vx_isa::Image;

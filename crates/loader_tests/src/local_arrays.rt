@@ -1,7 +1,8 @@
 //! The `__local` arrays of a group, at both sides of 262,144 bytes.
 use crate::launches::{Answer, usual_answer};
 use item_acts::Range;
-use launch_loader::{Arg, LaunchFault};
+use launch_loader::LaunchFault;
+use launch_plans::Arg;
 use std::alloc::Global;
 use std::test::Fail;
 use vx_base::{Elem, Memory, ParamKind, Space};
