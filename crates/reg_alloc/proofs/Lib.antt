@@ -1,0 +1,4 @@
+pub mod Sizes
+pub mod Standing
+pub mod Fitting
+pub mod Worked

@@ -1,0 +1,5 @@
+//! Code for lanes as machine words: each register is a word of the lane's frame.
+//!
+//! Read `specs/Blocks.antt` for the words of each operation, `specs/Layout.antt` for where they stand, and `specs/Alone.antt` for what a
+//! lane does alone at these words.
+#![tactic(auto)]
