@@ -1,4 +1,5 @@
 pub mod Sizes
 pub mod Standing
 pub mod Fitting
+pub mod Decoding
 pub mod Worked

@@ -1,15 +1,12 @@
 -- How many words the blocks have.
-use Rattle.std.proofs.Common.{◌≡◌, ℕ, zero, suc, ◌+◌, ◌*◌, ◌≤◌, Bool, true, false, nat_lt, if◌then◌else◌, List, [], ◌∷◌, length, drop, ap, sym, ◌∙◌, arith, refl}
+use Rattle.std.proofs.Common.{◌≡◌, ℕ, zero, suc, ◌+◌, true, false, nat_lt, if◌then◌else◌, List, [], ◌∷◌, length, arith, refl}
 use Rattle.vx_base.specs.declared.types.Alu.{Alu}
 use Rattle.vx_base.specs.declared.types.Alu.TheVariants as alu
 use Rattle.kir.specs.Trees.{Operand, VariableOf, NumberOf}
-use Rattle.vx_isa.specs.declared.instr.Instr.{Instr}
 use Rattle.vcode.specs.Code.{VOp, Fresh, Copy, Compute, Cut, Word, WordAt, Learn, Fetch, Write, IfZero, IfNot, Goto, Split, Join, Pred, Tmc, Wspawn, Bar, Trap, Enter, Leaves, Again}
-use Rattle.vcode.specs.Words.{number_words, op_words, operand_words, right_words, shift_words, words}
-use Rattle.reg_alloc.specs.Plain.{Plain, GetSlot, GetBlock, AddTo, ShiftLeft, Calculate, block_base, instr_of, left, made, right}
-use Rattle.vx_base.specs.declared.types.Elem.{Elem}
+use Rattle.vcode.specs.Words.{number_words, op_words, operand_words, right_words, shift_words}
+use Rattle.reg_alloc.specs.Plain.{Plain, GetSlot, AddTo, ShiftLeft, Calculate, block_base, left, made, right}
 use Rattle.reg_alloc.specs.Blocks.{Block, address_of_word, block, number_before, operand_before, pair_before, register_of, right_before, shift_before, spare_bits}
-use Rattle.reg_alloc.specs.Layout.{block_onto, onto, plain_onto}
 
 pub number_count : (rd n : ℕ) (rest : List Plain) → length (number_before rd n rest) ≡ number_words n + length rest
 number_count rd zero rest = omega arith

@@ -1,13 +1,12 @@
 -- Blocks stand one behind another.
-use Rattle.std.proofs.Common.{◌≡◌, ℕ, zero, suc, ◌+◌, ◌-◌, ◌*◌, ◌%◌, ◌^◌, ◌≤◌, List, [], ◌∷◌, length, drop, map, ap, sym, subst, ◌∙◌, arith, refl}
-use Rattle.vx_isa.specs.Effects.{address_at}
+use Rattle.std.proofs.Common.{◌≡◌, ℕ, zero, suc, ◌+◌, List, [], ◌∷◌, length, drop, map, ap, sym, ◌∙◌, arith, refl}
 use Rattle.vx_isa.specs.Words.{word_of}
 use Rattle.vx_isa.specs.declared.instr.Instr.{Instr}
 use Rattle.vcode.specs.Code.{VOp}
 use Rattle.vcode.specs.Words.{op_words, words}
 use Rattle.reg_alloc.specs.Plain.{Plain, instr_of}
-use Rattle.reg_alloc.specs.Blocks.{Block, address_of_word, block, distance}
-use Rattle.reg_alloc.specs.Layout.{block_onto, instrs_from, instrs_of, onto, plain_onto, word_of_place, words_of}
+use Rattle.reg_alloc.specs.Blocks.{Block, block}
+use Rattle.reg_alloc.specs.Layout.{block_onto, instrs_from, instrs_of, onto, plain_onto, word_of_place}
 use Rattle.reg_alloc.specs.Laws.{BlocksStand, JumpsLand, PlacesAreWithin, WordsAreCounted}
 use Rattle.reg_alloc.proofs.Sizes.{block_size, size}
 

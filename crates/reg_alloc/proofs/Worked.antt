@@ -1,12 +1,12 @@
 -- Worked blocks, one of each kind of operation, by the definitions.
-use Rattle.std.proofs.Common.{◌≡◌, ℕ, List, [], ◌∷◌, refl}
+use Rattle.std.proofs.Common.{◌≡◌, [], ◌∷◌, refl}
 use Rattle.vx_base.specs.declared.types.Alu.TheVariants as alu
 use Rattle.vx_base.specs.declared.types.Elem.TheVariants as elem
 use Rattle.kir.specs.Trees.{VariableOf, NumberOf}
-use Rattle.vx_isa.specs.declared.instr.Instr.TheVariants.{Lui, Jal, Beq, Bne, Lb, Lw, Lhu, Sb, Sw, Addi, Slli, Srai, Add, Sub, Mul, Ebreak, Csrr, Tmc, Wspawn, Split, Join, Bar, Pred}
+use Rattle.vx_isa.specs.declared.instr.Instr.TheVariants.{Lui, Jal, Beq, Bne, Lw, Lhu, Sb, Sw, Addi, Slli, Srai, Add, Sub, Mul, Ebreak, Csrr, Tmc, Wspawn, Split, Join, Bar, Pred}
 use Rattle.vcode.specs.declared.ops.Csr.TheVariants as csr
-use Rattle.vcode.specs.Code.{VOp, Fresh, Copy, Compute, Cut, Word, WordAt, Learn, Fetch, Write, IfZero, IfNot, Goto, Split as Parts, Join as Meets, Pred as Keeps, Tmc as Leave, Wspawn as Spawns, Bar as Waits, Trap, Enter, Leaves, Again}
-use Rattle.reg_alloc.specs.Layout.{instrs_of, word_of_place, words_of}
+use Rattle.vcode.specs.Code.{Fresh, Copy, Compute, Cut, Word, WordAt, Learn, Fetch, Write, IfZero, IfNot, Goto, Split as Parts, Join as Meets, Pred as Keeps, Tmc as Leave, Wspawn as Spawns, Bar as Waits, Trap, Enter, Leaves, Again}
+use Rattle.reg_alloc.specs.Layout.{instrs_of}
 
 -- the frame of a lane with 20 words: at 0x10080000 + (warp * lanes + lane) * 80
 fresh : instrs_of 20 (Fresh ∷ []) ≡ Lui 3 0x10000 ∷ Csrr 5 0xcc1 ∷ Lw 6 60 3 ∷ Mul 5 5 6 ∷ Csrr 6 0xcc0 ∷ Add 5 5 6 ∷ Addi 6 0 80 ∷ Mul 5 5 6 ∷ Lui 6 0x10080 ∷ Add 4 5 6 ∷ []

@@ -1,11 +1,10 @@
 -- What a lane does alone at machine words: each instruction is what it is to the lane by itself, and what a warp does with its lanes together
 -- passes it by.
-use Rattle.std.specs.Prelude.{ℕ, ◌+◌, ◌-◌, ◌*◌, ◌%◌, ◌^◌, Bool, true, false, nat_eq, if◌then◌else◌, List, [], ◌∷◌, Option, None, Some, Result, Ok, Err}
+use Rattle.std.specs.Prelude.{ℕ, ◌-◌, ◌*◌, ◌%◌, ◌^◌, Bool, false, nat_eq, if◌then◌else◌, List, [], ◌∷◌, Option, None, Some, Result, Ok, Err}
 use Rattle.vx_base.specs.Bytes.{bytes_of}
 use Rattle.vx_base.specs.declared.types.Pos.{Pos}
 use Rattle.vx_base.specs.declared.types.Size.{Size}
-use Rattle.vx_base.specs.declared.types.Size.TheVariants.{One, Two, Four}
-use Rattle.item_acts.specs.declared.acts.Action.{Action}
+use Rattle.vx_base.specs.declared.types.Size.TheVariants.{Four}
 use Rattle.item_acts.specs.declared.acts.Action.TheVariants.{Load, Store, Barrier, Fault, End}
 use Rattle.item_acts.specs.Launches.{put_at}
 use Rattle.item_acts.specs.Machine.{Step, Go, Ask, Stop}

@@ -1,5 +1,5 @@
 -- Words that only compute: what each of them makes of the registers and the frame of a lane.
-use Rattle.std.specs.Prelude.{ℕ, suc, ◌+◌, ◌-◌, ◌*◌, ◌/◌, ◌%◌, ◌^◌, nat_lt, if◌then◌else◌, List, [], ◌∷◌}
+use Rattle.std.specs.Prelude.{ℕ, ◌+◌, ◌-◌, ◌*◌, ◌/◌, ◌%◌, ◌^◌, nat_lt, if◌then◌else◌, List, [], ◌∷◌}
 use Rattle.vx_base.specs.Values.{alu_value_of}
 use Rattle.vx_base.specs.declared.types.Alu.{Alu}
 use Rattle.vx_base.specs.declared.types.Alu.TheVariants as alu
