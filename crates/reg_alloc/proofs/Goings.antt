@@ -1,19 +1,19 @@
 -- A lane alone goes through words that only compute, whatever another machine does meanwhile.
-use Rattle.std.proofs.Common.{◌≡◌, ℕ, zero, suc, ◌+◌, ◌*◌, ◌%◌, ◌^◌, ◌<◌, ◌≤◌, List, [], ◌∷◌, drop, length, map, ap, subst, ◌∙◌, arith, refl, Some, Ok}
+use Rattle.std.proofs.Common.{◌≡◌, ℕ, zero, suc, ◌+◌, ◌<◌, ◌≤◌, List, [], ◌∷◌, drop, length, map, ap, subst, ◌∙◌, arith, refl, Some, Ok}
 use Rattle.std.specs.Prelude.{slice_get}
 use Rattle.item_acts.specs.declared.acts.Place.{Place}
 use Rattle.item_acts.specs.Machine.{Step, Go}
 use Rattle.step_machine.specs.Sims.{GoAlong, SecondGoes}
-use Rattle.vx_isa.specs.Words.{Fits, word_of}
+use Rattle.vx_isa.specs.Words.{word_of}
 use Rattle.vx_isa.specs.WarpSteps.{fetched}
 use Rattle.vx_isa.specs.declared.instr.Instr.{Instr}
 use Rattle.vcode.specs.Machine.{Around}
-use Rattle.reg_alloc.specs.Plain.{Held, Plain, do_all, does, held, instr_of}
+use Rattle.reg_alloc.specs.Plain.{Held, Plain, do_all, does, instr_of}
 use Rattle.reg_alloc.specs.Blocks.{address_of_word}
 use Rattle.reg_alloc.specs.Layout.{plain_onto}
 use Rattle.reg_alloc.specs.Alone.{ImageLane, Setting, fetched_step, image_lane, image_step, next_pc}
 use Rattle.reg_alloc.proofs.Fitting.{AllFit, fits_at}
-use Rattle.reg_alloc.proofs.Walking.{Reaches, Stands, around_in, behind_plain, fetched_at, plain_step}
+use Rattle.reg_alloc.proofs.Walking.{Reaches, Stands, around_in, fetched_at, plain_step}
 
 -- the first of the words from a number on
 pub first_at : (is rest : List Instr) (i : Instr) (j : ℕ) → drop j is ≡ i ∷ rest → slice_get is j ≡ Some i

@@ -1,12 +1,12 @@
 -- A lane alone at a word that only computes: it makes of the registers and the frame what the word does.
-use Rattle.std.proofs.Common.{◌≡◌, ℕ, zero, suc, ◌+◌, ◌-◌, ◌*◌, ◌/◌, ◌%◌, ◌^◌, ◌<◌, ◌≤◌, true, false, nat_le, nat_eq, List, [], ◌∷◌, map, ap, ◌∙◌, arith, refl, Some, Ok}
+use Rattle.std.proofs.Common.{◌≡◌, ℕ, zero, suc, ◌+◌, ◌-◌, ◌*◌, ◌/◌, ◌%◌, ◌^◌, ◌<◌, true, false, nat_le, nat_eq, List, [], ◌∷◌, map, ap, ◌∙◌, arith, refl, Some, Ok}
 use Rattle.std.specs.Prelude.{slice_get}
 use Rattle.std.proofs.lemmas.Bool.{le-leb}
 use Rattle.vx_base.specs.declared.types.Alu.{Alu}
 use Rattle.vx_base.specs.declared.types.Alu.TheVariants as alu
 use Rattle.vx_base.specs.declared.types.Size.TheVariants.{Four}
 use Rattle.item_acts.specs.declared.acts.Place.{Place}
-use Rattle.item_acts.specs.Machine.{Step, Go}
+use Rattle.item_acts.specs.Machine.{Go}
 use Rattle.vx_layout.specs.Addresses.{Block, Own, block_start}
 use Rattle.vx_isa.specs.Effects.{address_at}
 use Rattle.vx_isa.specs.Words.{Fits, word_of}
@@ -15,9 +15,9 @@ use Rattle.vx_isa.specs.WarpSteps.{code_start, decoded, fetched, read_as}
 use Rattle.vx_isa.specs.declared.instr.Instr.{Instr}
 use Rattle.vx_isa.proofs.RowLaws.{row_of_word_of}
 use Rattle.vcode.specs.Machine.{Around}
-use Rattle.reg_alloc.specs.Plain.{Held, Plain, GetSlot, PutSlot, GetBlock, High, AddTo, ShiftLeft, Calculate, GetLane, GetWarp, alu_instr, does, held, instr_of}
+use Rattle.reg_alloc.specs.Plain.{Plain, GetSlot, PutSlot, GetBlock, High, AddTo, ShiftLeft, Calculate, GetLane, GetWarp, alu_instr, does, held, instr_of}
 use Rattle.reg_alloc.specs.Blocks.{address_of_word}
-use Rattle.reg_alloc.specs.Alone.{ImageLane, Setting, fetched_step, image_lane, image_step, instr_step, load_from, next_pc, store_to}
+use Rattle.reg_alloc.specs.Alone.{ImageLane, Setting, image_lane, instr_step, load_from, next_pc, store_to}
 
 mapped : (is : List Instr) (k : ℕ) (i : Instr) → slice_get is k ≡ Some i → slice_get (map word_of is) k ≡ Some (word_of i)
 mapped [] k i e = absurd (cc)
