@@ -1,0 +1,7 @@
+pub mod Sizes
+pub mod Standing
+pub mod Fitting
+pub mod Decoding
+pub mod Walking
+pub mod Goings
+pub mod Worked

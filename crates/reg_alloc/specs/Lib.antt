@@ -1,0 +1,5 @@
+pub mod Plain
+pub mod Blocks
+pub mod Layout
+pub mod Alone
+pub mod Laws
