@@ -1,6 +1,5 @@
 -- Lanes of lowered code do as the items of the source.
-use Rattle.std.proofs.Common.{◌≡◌, refl, sym, ap, ◌∙◌, subst, ℕ, Bool, List, [], map, slice_get, Some, drop}
-use Rattle.item_acts.specs.declared.acts.Range.{Range}
+use Rattle.std.proofs.Common.{◌≡◌, sym, ap, ◌∙◌, subst, ℕ, Bool, List, [], map, slice_get, Some, drop}
 use Rattle.kir.specs.Machine as kir
 use Rattle.kir.specs.Machine.{code_setting, kir_start}
 use Rattle.kir.specs.Trees.{KirCode}
@@ -29,7 +28,7 @@ use Rattle.simt_lowering.specs.Laid as laid
 use Rattle.simt_lowering.specs.Laid.{HasLane, LaysOut, around_of, array_bytes, kind_of}
 use Rattle.simt_lowering.proofs.LaidLanes.{accepted_is_laid}
 use Rattle.lane_kernels.specs.Accesses.{AccessArrays}
-use Rattle.lane_kernels.specs.Source.{AsksAs, DoAsItems, DoesAs, IsLaunchOf, LanesDoAsSource}
+use Rattle.lane_kernels.specs.Source.{AsksAs, DoesAs, IsLaunchOf, LanesDoAsSource}
 use Rattle.lane_kernels.proofs.Limits.{can_lower}
 use Rattle.lane_kernels.proofs.Ranges.{same_setting, within}
 use Rattle.lane_kernels.proofs.WordItems.{is_word_item}

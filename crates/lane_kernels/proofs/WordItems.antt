@@ -1,5 +1,5 @@
 -- An item of an accepted launch is one of whose launch the numbers are words.
-use Rattle.std.proofs.Common.{inl, inr, ◌≡◌, refl, sym, ap, ◌∙◌, subst, ℕ, ◌+◌, ◌*◌, ◌/◌, ◌%◌, ◌^◌, ◌<◌, ◌≤◌, List, Option, None, Some, map, slice_get, arith}
+use Rattle.std.proofs.Common.{inl, inr, ◌≡◌, refl, ap, ◌∙◌, ℕ, ◌+◌, ◌*◌, ◌/◌, ◌%◌, ◌^◌, ◌<◌, ◌≤◌, Option, None, Some, slice_get, arith}
 use Rattle.std.specs.Prelude.{option_map, slice_index}
 use Rattle.std.proofs.lemmas.Option.{slice_get-map}
 use Rattle.std.proofs.lemmas.Nat.{div-add-mod'}
@@ -13,7 +13,7 @@ use Rattle.item_acts.specs.declared.acts.Bound.TheVariants.{Value, Array}
 use Rattle.ocl_ast.specs.declared.units.Param.{Param}
 use Rattle.ocl_program.specs.Nodes.{FunctionNode}
 use Rattle.item_settings.specs.declared.arrays.ItemArray.{ItemArray}
-use Rattle.item_settings.specs.Settings.{array_bound, bound_array, group_number, local_number}
+use Rattle.item_settings.specs.Settings.{array_bound, bound_array}
 use Rattle.vx_layout.specs.Launching.{Plan, Accepted, group_count, group_size}
 use Rattle.vx_layout.proofs.Located.{located}
 use Rattle.structured.specs.Source.{IsWordItem}

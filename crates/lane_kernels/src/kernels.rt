@@ -4,7 +4,7 @@ ghost use Rattle.ocl_program.specs.Measures.{measured, own_depth};
 ghost use Rattle.ocl_program.specs.Shapes.{function_node};
 ghost use Rattle.vcode.specs.Shapes.{vcode_of, vops_of};
 ghost use Rattle.vcode.specs.Words.{words};
-ghost use Rattle.structured.specs.Ready.{IsKernel, measures_of};
+ghost use Rattle.structured.specs.Ready.{IsKernel};
 ghost use Rattle.simt_lowering.specs.Bounds.{AreWithin, LeadWithin};
 ghost use Rattle.simt_lowering.specs.InBlock.{ReadBlock};
 ghost use Rattle.simt_lowering.specs.WithoutItems.{EndWithout};
@@ -29,18 +29,22 @@ pub fn lane_kernel(alloc: Global, program: &Program, kernel: u32) -> Result<VCod
     requires kernel { IsKernel (map function_node program.now.functions.items) kernel }
     requires depth { measured own_depth (map function_node program.now.functions.items) kernel ≤ 2 ^ 31 }
     ensures asks { IfOk result (λ made.
-        LanesDoAsSource (map function_node program.now.functions.items) kernel (vops_of made.ops.items)) }
+        LanesDoAsSource (map function_node program.now.functions.items) kernel
+        (vops_of made.ops.items)) }
     ensures passes { IfOk result (λ made.
         IsLoweredFrom (map function_node program.now.functions.items) kernel (vcode_of made)) }
     ensures few_registers { IfOk result (λ made.
-        made.registers ≤ most_registers (measures_of (map function_node program.now.functions.items) kernel)) }
+        made.registers ≤ most_registers (map function_node program.now.functions.items) kernel) }
     ensures few_words { IfOk result (λ made.
-        words (vops_of made.ops.items) ≤ most_words (measures_of (map function_node program.now.functions.items) kernel)) }
+        words (vops_of made.ops.items)
+        ≤ most_words (map function_node program.now.functions.items) kernel) }
     ensures registers { IfOk result (λ made. AreWithin made.registers (vops_of made.ops.items)) }
-    ensures places { IfOk result (λ made. LeadWithin (length made.ops.items) (vops_of made.ops.items)) }
+    ensures places { IfOk result (λ made.
+        LeadWithin (length made.ops.items) (vops_of made.ops.items)) }
     ensures written { IfOk result (λ made. AreWrittenFirst (vops_of made.ops.items)) }
     ensures accesses { IfOk result (λ made.
-        AccessArrays (map function_node program.now.functions.items) kernel (vops_of made.ops.items)) }
+        AccessArrays (map function_node program.now.functions.items) kernel
+        (vops_of made.ops.items)) }
     ensures block { IfOk result (λ made. ReadBlock (vops_of made.ops.items)) }
     ensures ends { IfOk result (λ made. EndWithout (vops_of made.ops.items)) }
 {
