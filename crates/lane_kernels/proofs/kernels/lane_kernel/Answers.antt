@@ -16,12 +16,8 @@ use Rattle.lane_kernels.proofs.kernels.lane_kernel.Goals as goal
 
 pub lower-requires : goal.lower-requires
 lower-requires c =
-    let program = map function_node c.args.program.now.functions.items in
     let ready = c.in_ok-code.ensures.ready.ready in
-    record {
-      limited = limited (measures_of program c.args.kernel) (measured own_sites program c.args.kernel) (code_of c.in_ok-code.code) ready;
-      fits = words_fit (measures_of program c.args.kernel) (measured own_sites program c.args.kernel) (code_of c.in_ok-code.code) ready;
-    }
+    record { limited = limited _ _ (code_of c.in_ok-code.code) ready; fits = words_fit _ _ (code_of c.in_ok-code.code) ready }
 
 pub returns-clause-asks : goal.returns-clause-asks
 returns-clause-asks c =
