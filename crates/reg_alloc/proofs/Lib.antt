@@ -1,3 +1,4 @@
+pub mod Small
 pub mod Sizes
 pub mod Standing
 pub mod Fitting
