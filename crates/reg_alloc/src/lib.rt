@@ -8,5 +8,6 @@
 pub mod counting;
 pub mod laws;
 pub mod numbers;
+pub mod putting;
 pub mod rows;
 pub mod starts;
