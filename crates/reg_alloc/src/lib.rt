@@ -5,9 +5,14 @@
 //! each operation.
 #![tactic(auto)]
 
+pub mod allocation;
+pub mod blocks;
 pub mod counting;
 pub mod laws;
 pub mod numbers;
+pub mod operations;
 pub mod putting;
 pub mod rows;
 pub mod starts;
+
+pub use allocation::{AllocateFault, Allocated, allocate};
