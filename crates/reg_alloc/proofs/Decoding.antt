@@ -1,11 +1,13 @@
 -- Each word of a kernel is read as the instruction that it was made of.
-use Rattle.std.proofs.Common.{◌≡◌, ℕ, ◌+◌, ◌-◌, ◌*◌, ◌<◌, ◌≤◌, true, List, [], ◌∷◌, arith, refl}
+use Rattle.std.specs.Prelude.{slice_get}
+use Rattle.std.proofs.Common.{◌≡◌, ℕ, suc, Some, map, ap, ◌∙◌, ◌+◌, ◌-◌, ◌*◌, ◌<◌, ◌≤◌, true, List, [], ◌∷◌, arith, refl}
 use Rattle.vx_base.specs.declared.types.Alu.TheVariants as alu
 use Rattle.vx_base.specs.declared.types.Elem.{Elem}
 use Rattle.vx_base.specs.declared.types.Elem.TheVariants as elem
 use Rattle.kir.specs.Trees.{Operand}
 use Rattle.kir.specs.Numbered.{IsBelow}
-use Rattle.vx_isa.specs.Words.{Fits, is_register}
+use Rattle.vx_isa.specs.Rows.{row_of}
+use Rattle.vx_isa.specs.Words.{Fits, is_register, word_of}
 use Rattle.vx_isa.specs.declared.instr.Instr.{Instr}
 use Rattle.vx_isa.specs.declared.instr.Instr.TheVariants as instr
 use Rattle.vx_isa.proofs.RowLaws.{row_of_word_of}
@@ -173,3 +175,9 @@ words_decode slots ops few fit low k i e =
     let near : (q : ℕ) → word_of_place ops q ≤ 65536 = λ q. let h = places_are_within ops q in omega (arith, h, low) in
     let fits = fits_at (instrs_of slots ops) (from_fits slots (word_of_place ops) few near 0 ops (omega (arith, low)) fit) k i e in
     (fits, row_of_word_of i fits)
+
+-- words that are each read as an instruction, in order
+pub all_read : (is : List Instr) → ((k : ℕ) (i : Instr) → slice_get is k ≡ Some i → row_of (word_of i) ≡ Some i) → map row_of (map word_of is) ≡ map (λ i. Some i) is
+all_read [] h = refl
+all_read (i ∷ is) h =
+    ap (λ o. o ∷ map row_of (map word_of is)) (h 0 i refl) ∙ ap (λ os. Some i ∷ os) (all_read is (λ k j e. h (suc k) j e))

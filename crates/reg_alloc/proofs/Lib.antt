@@ -1,3 +1,7 @@
+pub mod Chains
+pub mod Broader
+pub mod Small
+pub mod Starting
 pub mod Sizes
 pub mod Standing
 pub mod Fitting

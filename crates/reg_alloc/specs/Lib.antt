@@ -2,4 +2,5 @@ pub mod Plain
 pub mod Blocks
 pub mod Layout
 pub mod Alone
+pub mod Views
 pub mod Laws
