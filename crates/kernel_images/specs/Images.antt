@@ -10,12 +10,10 @@ use Rattle.lane_kernels.specs.Sizes.{most_words}
 use Rattle.lane_kernels.specs.Source.{LanesDoAsSource}
 use Rattle.reg_alloc.specs.Layout.{instrs_of, sites_of, words_of}
 
--- The image is of the kernel of this name. It has the words of code whose lanes do as the kernel's items, each of which is an instruction, and the
--- places of its checks; a frame of at most 256 words for each lane; and the kernel's parameters and `__local` arrays.
-pub record IsImageOf (program : List FunctionNode) (name : List ℕ) (image : Image) : Type 0 where
-  pub number : ℕ
+-- The image is of function `number`, a kernel. It has the words of code whose lanes do as the kernel's items, each of which is an instruction, and
+-- the places of its checks; a frame of at most 256 words for each lane; and the kernel's parameters and `__local` arrays.
+pub record IsImageOf (program : List FunctionNode) (number : ℕ) (image : Image) : Type 0 where
   pub kernel : FunctionNode
-  pub found : kernel_from 0 name program ≡ Some number
   pub is : slice_get program number ≡ Some kernel
   pub ops : List VOp
   pub does : LanesDoAsSource program number ops
@@ -26,3 +24,7 @@ pub record IsImageOf (program : List FunctionNode) (name : List ℕ) (image : Im
   pub few : length image.words ≤ most_words program number
   pub params : image.params ≡ map kind_of kernel.params
   pub locals : image.locals ≡ map array_bytes kernel.arrays
+
+-- It is the image of the kernel of this name.
+abbrev pub IsImageNamed : List FunctionNode → List ℕ → Image → Type 0
+IsImageNamed program name image = (number : ℕ) × ((kernel_from 0 name program ≡ Some number) × IsImageOf program number image)

@@ -1,5 +1,5 @@
 -- Which kernels have no image, and why.
-use Rattle.std.specs.Prelude.{◌≡◌, ℕ, ◌^◌, ◌-◌, ◌<◌, ◌≤◌, min, List, slice_get, Unit, Some, None}
+use Rattle.std.specs.Prelude.{◌≡◌, ℕ, ◌^◌, ◌-◌, ◌<◌, ◌≤◌, min, List, slice_get, Some, None}
 use Rattle.vx_base.specs.declared.types.Pos.{Pos}
 use Rattle.ocl_program.specs.Nodes.{FunctionNode}
 use Rattle.ocl_types.specs.Functions.{kernel_from}
@@ -11,26 +11,37 @@ use Rattle.kernel_images.specs.declared.compiling.CompileFault.TheVariants as fa
 abbrev pub kept : ℕ → ℕ
 kept n = min n (2 ^ 32 - 1)
 
--- kernel `number` has this name, which stands here
+-- A lane's frame of function `number` may take more than 256 words; else its code may take more than 65,536.
+abbrev pub HasManySlots : List FunctionNode → ℕ → ℕ → Type 0
+HasManySlots program number slots = (256 < most_registers program number) × (slots ≡ kept (most_registers program number))
+
+abbrev pub HasManyWords : List FunctionNode → ℕ → ℕ → Type 0
+HasManyWords program number words = (most_registers program number ≤ 256) × ((65536 < most_words program number) × (words ≡ kept (most_words program number)))
+
+abbrev pub IsSmall : List FunctionNode → ℕ → Type 0
+IsSmall program number = (most_registers program number ≤ 256) × (most_words program number ≤ 65536)
+
+-- Function `number` is the kernel of this name, which stands here.
 pub record StandsAt (program : List FunctionNode) (name : List ℕ) (number : ℕ) (pos : Pos) : Type 0 where
   pub kernel : FunctionNode
   pub found : kernel_from 0 name program ≡ Some number
   pub is : slice_get program number ≡ Some kernel
   pub here : pos ≡ kernel.name.pos
 
--- A refusal has its cause: no kernel has the name; its measures allow for more than 256 words of a lane's frame, or else for more than 65,536 words of
--- machine code. Want of memory can come always.
-pub data IsRefused (program : List FunctionNode) (name : List ℕ) : CompileFault → Type 0 where
-  NoName : kernel_from 0 name program ≡ None → IsRefused program name fault.NoEntry
-  ManySlots : (number : ℕ) (pos : Pos) → StandsAt program name number pos → 256 < most_registers program number
-      → IsRefused program name (fault.Slots pos (kept (most_registers program number)))
-  ManyWords : (number : ℕ) (pos : Pos) → StandsAt program name number pos → most_registers program number ≤ 256 → 65536 < most_words program number
-      → IsRefused program name (fault.Words pos (kept (most_words program number)))
-  NoMemory : IsRefused program name fault.Memory
+-- A refusal has its cause: no kernel has the name, or its measures are too large. Want of memory may come always.
+abbrev pub IsRefused : List FunctionNode → List ℕ → CompileFault → Type 0
+IsRefused program name fault.NoEntry = kernel_from 0 name program ≡ None
+IsRefused program name (fault.Slots pos slots) = (number : ℕ) × (StandsAt program name number pos × HasManySlots program number slots)
+IsRefused program name (fault.Words pos words) = (number : ℕ) × (StandsAt program name number pos × HasManyWords program number words)
+IsRefused program name fault.Memory = Unit {0}
 
--- A kernel that has an image is within these bounds.
-pub record IsSmallEnough (program : List FunctionNode) (name : List ℕ) : Type 0 where
-  pub number : ℕ
-  pub found : kernel_from 0 name program ≡ Some number
-  pub slots : most_registers program number ≤ 256
-  pub words : most_words program number ≤ 65536
+-- what is too large in function `number`, whose name stands here
+abbrev pub IsTooLarge : List FunctionNode → ℕ → Pos → CompileFault → Type 0
+IsTooLarge program number here fault.NoEntry = ⊥
+IsTooLarge program number here (fault.Slots pos slots) = (pos ≡ here) × HasManySlots program number slots
+IsTooLarge program number here (fault.Words pos words) = (pos ≡ here) × HasManyWords program number words
+IsTooLarge program number here fault.Memory = ⊥
+
+-- A kernel has this name, and its measures are small enough.
+abbrev pub IsSmallNamed : List FunctionNode → List ℕ → Type 0
+IsSmallNamed program name = (number : ℕ) × ((kernel_from 0 name program ≡ Some number) × IsSmall program number)
