@@ -8,4 +8,5 @@ pub mod Fitting
 pub mod Decoding
 pub mod Walking
 pub mod Goings
+pub mod Bringing
 pub mod Worked
