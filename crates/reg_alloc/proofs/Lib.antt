@@ -9,4 +9,5 @@ pub mod Decoding
 pub mod Walking
 pub mod Goings
 pub mod Bringing
+pub mod Computing
 pub mod Worked
