@@ -10,4 +10,5 @@ pub mod Walking
 pub mod Goings
 pub mod Bringing
 pub mod Computing
+pub mod Acting
 pub mod Worked
