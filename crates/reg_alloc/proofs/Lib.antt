@@ -8,4 +8,7 @@ pub mod Fitting
 pub mod Decoding
 pub mod Walking
 pub mod Goings
+pub mod Bringing
+pub mod Computing
+pub mod Acting
 pub mod Worked

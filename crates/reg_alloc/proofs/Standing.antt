@@ -1,13 +1,14 @@
 -- Blocks stand one behind another.
 use Rattle.std.proofs.Common.{◌≡◌, ℕ, zero, suc, ◌+◌, List, [], ◌∷◌, length, drop, map, ap, sym, ◌∙◌, arith, refl}
+use Rattle.std.proofs.lemmas.List.{drop-map}
 use Rattle.vx_isa.specs.Words.{word_of}
 use Rattle.vx_isa.specs.declared.instr.Instr.{Instr}
 use Rattle.vcode.specs.Code.{VOp}
 use Rattle.vcode.specs.Words.{op_words, words}
 use Rattle.reg_alloc.specs.Plain.{Plain, instr_of}
 use Rattle.reg_alloc.specs.Blocks.{Block, block}
-use Rattle.reg_alloc.specs.Layout.{block_onto, instrs_from, instrs_of, onto, plain_onto, word_of_place}
-use Rattle.reg_alloc.specs.Laws.{BlocksStand, JumpsLand, PlacesAreWithin, WordsAreCounted}
+use Rattle.reg_alloc.specs.Layout.{block_onto, instrs_from, instrs_of, onto, plain_onto, word_of_place, words_of}
+use Rattle.reg_alloc.specs.Laws.{StandIn, BlocksStand, JumpsLand, PlacesAreWithin, WordsAreCounted}
 use Rattle.reg_alloc.proofs.Sizes.{block_size, size}
 
 -- what stands behind words that are put in front of others
@@ -72,6 +73,9 @@ blocks_stand slots ops rest op p e =
     let h = stand_from slots (word_of_place ops) 0 ops rest op p e in
     let none : word_of_place ops p + 0 ≡ word_of_place ops p = omega arith in
     h ∙ ap (λ n. block_onto (block slots (word_of_place ops) (op_words op + n) op) (instrs_from slots (word_of_place ops) (op_words op + n) rest)) none
+
+pub words_stand : (slots : ℕ) (ops : List VOp) → StandIn slots ops (words_of slots ops)
+words_stand slots ops rest op p e = drop-map word_of (word_of_place ops p) (instrs_of slots ops) ∙ ap (map word_of) (blocks_stand slots ops rest op p e)
 
 count_from : (slots : ℕ) (starts : ℕ → ℕ) (k : ℕ) (ops : List VOp) → length (instrs_from slots starts k ops) ≡ words ops
 count_from slots starts k [] = refl

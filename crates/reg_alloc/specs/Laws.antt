@@ -1,6 +1,6 @@
 -- What is said of the words of a kernel: they stand block by block, each jump leads to the first word of a block, and each word is read as the
 -- instruction that it was made of.
-use Rattle.std.specs.Prelude.{◌≡◌, ℕ, ◌+◌, ◌≤◌, List, ◌∷◌, drop, length, slice_get, Some}
+use Rattle.std.specs.Prelude.{◌≡◌, ℕ, ◌+◌, ◌≤◌, List, ◌∷◌, drop, length, map, slice_get, Some}
 use Rattle.vx_isa.specs.Effects.{address_at}
 use Rattle.vx_isa.specs.Rows.{row_of}
 use Rattle.vx_isa.specs.Words.{Fits, word_of}
@@ -17,6 +17,13 @@ BlocksStand = (slots : ℕ) (ops rest : List VOp) (op : VOp) (p : ℕ) → drop 
     → drop (word_of_place ops p) (instrs_of slots ops)
     ≡ block_onto (block slots (word_of_place ops) (op_words op + word_of_place ops p) op)
     (instrs_from slots (word_of_place ops) (op_words op + word_of_place ops p) rest)
+
+-- in words, the block of each operation stands where its place begins
+abbrev pub StandIn : ℕ → List VOp → List ℕ → Type 0
+StandIn slots ops ws = (rest : List VOp) (op : VOp) (p : ℕ) → drop p ops ≡ op ∷ rest
+    → drop (word_of_place ops p) ws
+    ≡ map word_of (block_onto (block slots (word_of_place ops) (op_words op + word_of_place ops p) op)
+    (instrs_from slots (word_of_place ops) (op_words op + word_of_place ops p) rest))
 
 -- there are as many words as the operations come to
 abbrev pub WordsAreCounted : Type 0

@@ -8,6 +8,7 @@ ghost use Rattle.vx_isa.specs.Words.{Fits, word_of};
 ghost use Rattle.vx_isa.specs.declared.image.Site.{Site as AnySite};
 ghost use Rattle.vx_isa.specs.declared.instr.Instr.{Instr as AnyInstr};
 ghost use Rattle.reg_alloc.specs.Layout.{and_site, instrs_from, instrs_of, sites_of, words_of};
+ghost use Rattle.reg_alloc.specs.Laws.{StandIn};
 ghost use Rattle.reg_alloc.specs.Views.{AreNear, IsRefused, starts_in};
 
 use crate::blocks::put_block;
@@ -156,6 +157,8 @@ pub fn allocate(alloc: Global, code: &VCode) -> Result<Allocated, AllocateFault>
     ensures refused { IfErr result (IsRefused code.now.registers) }
     ensures counted { IfOk result (λ made.
         length made.words ≡ count_of (vops_of code.now.ops.items)) }
+    ensures stand { IfOk result (λ made.
+        StandIn made.slots (vops_of code.now.ops.items) made.words) }
     ensures decoded { IfOk result (λ made.
         map row_of made.words ≡ map Some (instrs_of made.slots (vops_of code.now.ops.items))) }
 {
