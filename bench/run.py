@@ -25,6 +25,8 @@ import sys
 import tempfile
 import time
 
+from texts import LIMIT, STAGES, TEXTS
+
 TOP = os.path.dirname(os.path.dirname(os.path.abspath(__file__)))
 PROGRAM = os.path.join(TOP, "crates", "vx", "out", "vx")
 PORT_STEPS = os.path.join(TOP, "crates", "port_steps", "out", "port_steps")
@@ -34,7 +36,6 @@ FRONT_SPEED = os.path.join(TOP, "crates", "front_speed", "out", "front_speed")
 STEPS = 20_000_000
 WARP_STEPS = 10_000_000
 GROUP_STEPS = 10_000_000
-LIMIT = 1_048_576
 
 
 def affine(folder):
@@ -164,20 +165,36 @@ def core():
     return 0
 
 
-def front():
-    if not os.access(FRONT_SPEED, os.X_OK):
-        sys.exit("bench: front_speed is not built: run rt run -- names 1000 in crates/front_speed once")
-    print("%-9s %8s %10s %10s %10s %12s" % ("text", "status", "bytes", "tokens", "seconds", "peak MiB"))
-    texts = [(kind, LIMIT) for kind in ("names", "marks", "uses", "nested", "undefs", "program", "functions", "chain", "wide")]
-    wrong = 0
-    for kind, most in (*texts, ("calls", 821), ("calls", 2681), ("loops", 15_400), ("loops", 61_400)):
-        with tempfile.TemporaryFile() as output:
-            status, seconds, peak = run_once([FRONT_SPEED, kind, str(most)], None, output)
+def least(words, text, repeats=3):
+    """The status, the least processor time of some runs over a text, the greatest peak, and what the last one printed."""
+    seconds, peak = None, 0
+    for _ in range(repeats):
+        with tempfile.TemporaryFile() as given, tempfile.TemporaryFile() as output:
+            given.write(text)
+            given.seek(0)
+            child = subprocess.Popen(words, stdin=given, stdout=output, stderr=subprocess.DEVNULL)
+            _, status, usage = os.wait4(child.pid, 0)
             output.seek(0)
-            said = output.read().decode().split() or ["", ""]
-        print("%-9s %8d %10s %10s %10.3f %12.1f" % (kind, status, said[0], said[1], seconds, peak))
-        # (a text that is refused behind the lexer has no tokens)
-        wrong += status != 0 or said[1] == "0"
+            said = output.read().decode().split()
+        taken = usage.ru_utime + usage.ru_stime
+        seconds = taken if seconds is None else min(seconds, taken)
+        peak = max(peak, usage.ru_maxrss / 1024)
+    return os.waitstatus_to_exitcode(status), seconds, peak, said
+
+
+def front():
+    """The processor time of each text and of a tenth of it, and how long the stages take of which it has some."""
+    if not os.access(FRONT_SPEED, os.X_OK):
+        sys.exit("bench: front_speed is not built: run rt run in crates/front_speed once")
+    print("%-14s %6s %9s %8s %9s %7s  %s" % ("text", "status", "bytes", "seconds", "a tenth", "MiB", "after each stage"))
+    wrong = 0
+    for last, wanted, make in TEXTS:
+        text = make(LIMIT).encode()
+        status, seconds, peak, _ = least([FRONT_SPEED, last], text)
+        part = least([FRONT_SPEED, last], make(LIMIT // 10).encode())[1]
+        stages = ["%s %.2f" % (stage, least([FRONT_SPEED, stage], text)[1]) for stage in STAGES[:STAGES.index(last)]]
+        print("%-14s %6d %9d %8.2f %9.3f %7.0f  %s" % (make.__name__, status, len(text), seconds, part, peak, ", ".join(stages)), flush=True)
+        wrong += status != wanted
     return failed(wrong)
 
 
