@@ -51,3 +51,13 @@ def family():
 def kernel(piece, count):
     """A kernel of a body so many times, each time in a block of its own."""
     return HELPER + HEAD + "".join("{ %s }\n" % piece for _ in range(count)) + TAIL
+
+
+def backward(variables, nodes):
+    """A kernel whose variables lose their marks one in each sweep, the last declared first, with statements up to some nodes."""
+    names = ["v%d" % n for n in range(variables)]
+    head = "kernel void k(global int *p) {\n" + "".join("int %s = 0;\n" % name for name in names)
+    chain = "".join("%s = %s;\n" % pair for pair in zip(names, names[1:])) + names[-1] + " = get_global_id(0);\n"
+    filler = "v0 = v0 + 3;\n"
+    # (a declaration has 2 nodes, an assignment of a variable at most 4, and the filler 5)
+    return head + chain + filler * ((nodes - 6 * variables - 16) // 5) + "p[0] = v0; }\n"

@@ -24,7 +24,9 @@ import sys
 import tempfile
 import time
 
-from kernels import family, kernel
+sys.dont_write_bytecode = True
+
+from kernels import backward, family, kernel
 from texts import LIMIT, STAGES, TEXTS
 
 TOP = os.path.dirname(os.path.dirname(os.path.abspath(__file__)))
@@ -216,6 +218,13 @@ def largest_count(piece):
     return 1 + min(room)
 
 
+def show_passes(name, text):
+    """Prints the processor time of a kernel up to each pass, without that of its text."""
+    _, none, said = counts_of(text, "program", TIMES)
+    taken = [(counts_of(text, stage, TIMES)[1] - none) / TIMES * 1000 for stage in ("structured", "uniform", "lowered")]
+    print("%-44s %6d   structured %.2f, uniform %.2f, lowered %.2f" % (name, said[0], *taken), flush=True)
+
+
 def passes():
     """The words of a node and the registers of each kernel of the family, and the time that the largest take."""
     if not os.access(PASS_SPEED, os.X_OK):
@@ -237,14 +246,13 @@ def passes():
     print("%-44s %6s %6s %6s %5s %5s   %s" % ("the most words a node", "nodes", "words", "a node", "regs", "bound", "of 40 N + 256"))
     for ratio, _, name, piece, count, nodes, words, registers, bound in sorted(found, reverse=True)[:8]:
         print("%-44s %6d %6d %6.2f %5d %5d   %.2f" % (name, nodes, words, ratio, registers, bound, words / (40 * nodes + 256)))
-    most = max(it[5] for it in found)
     print("%-44s %6s   %s" % ("the largest, and a tenth of it", "nodes", "milliseconds after each pass"))
-    for _, _, name, piece, count, nodes, *_ in sorted((it for it in found if it[5] > most * 0.99), reverse=True)[:6]:
-        for n in (count, count // 10):
-            text = kernel(piece, n)
-            none = counts_of(text, "program", TIMES)[1]
-            taken = [(counts_of(text, stage, TIMES)[1] - none) / TIMES * 1000 for stage in ("structured", "uniform", "lowered")]
-            print("%-44s %6d   structured %.2f, uniform %.2f, lowered %.2f" % (name, counts_of(text, "program")[2][0], *taken), flush=True)
+    most = max(it[5] for it in found)
+    for _, _, name, piece, count, *_ in sorted((it for it in found if it[5] > most * 0.99), reverse=True)[:6]:
+        show_passes(name, kernel(piece, count))
+        show_passes(name, kernel(piece, count // 10))
+    for variables in (25, 250):
+        show_passes("%d marks fall, one in a sweep" % variables, backward(variables, 16_384))
     return failed(wrong)
 
 
