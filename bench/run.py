@@ -2,12 +2,11 @@
 """Runs the built program on stated inputs, and prints wall time and peak memory as a table.
 
   bench/run.py        after ./vx has built the program once
-  bench/run.py front  texts of 1,048,576 bytes from bytes to tokens: names, punctuators, uses of macros, macros that stand in one another,
-                      a program, from bytes to its trees, and a thousand functions, a chain of helpers each of which calls the
-                      next, and helpers that all call the first, from bytes to their program; then
-                      kernels of which structured code without jumps is made a hundred times: one of 16,374 nodes in calls and one
-                      of a quarter of them, one of 16,362 nodes in loops and one of a quarter of them; after rt ci or, in crates/front_speed,
-                      rt run has built that program
+  bench/run.py front  texts of 1,048,576 bytes of each kind in bench/texts.py, accepted and refused, and a tenth of each: the least
+                      processor time of three runs to their tokens or their program, and to each stage on the way; after rt ci
+                      or, in crates/front_speed, rt run has built that program
+  bench/run.py passes the kernels of bench/kernels.py through the passes, as large as a kernel may be: words of machine code a
+                      node, registers, and the time of each pass; after rt run in crates/pass_speed
   bench/run.py ports  millions of stores a second to shared words, by one to four threads; after rt ci or, in crates/port_steps,
                       rt run has built that program
   bench/run.py lanes  millions of lane instructions a second of processor time of one warp with 1, 8 and 32 active lanes in a
@@ -25,16 +24,22 @@ import sys
 import tempfile
 import time
 
+sys.dont_write_bytecode = True
+
+from kernels import backward, family, kernel
+from texts import LIMIT, STAGES, TEXTS
+
 TOP = os.path.dirname(os.path.dirname(os.path.abspath(__file__)))
 PROGRAM = os.path.join(TOP, "crates", "vx", "out", "vx")
 PORT_STEPS = os.path.join(TOP, "crates", "port_steps", "out", "port_steps")
 LANE_STEPS = os.path.join(TOP, "crates", "lane_steps", "out", "lane_steps")
 CORE_STEPS = os.path.join(TOP, "crates", "core_steps", "out", "core_steps")
 FRONT_SPEED = os.path.join(TOP, "crates", "front_speed", "out", "front_speed")
+PASS_SPEED = os.path.join(TOP, "crates", "pass_speed", "out", "pass_speed")
 STEPS = 20_000_000
 WARP_STEPS = 10_000_000
 GROUP_STEPS = 10_000_000
-LIMIT = 1_048_576
+TIMES = 100
 
 
 def affine(folder):
@@ -164,20 +169,90 @@ def core():
     return 0
 
 
-def front():
-    if not os.access(FRONT_SPEED, os.X_OK):
-        sys.exit("bench: front_speed is not built: run rt run -- names 1000 in crates/front_speed once")
-    print("%-9s %8s %10s %10s %10s %12s" % ("text", "status", "bytes", "tokens", "seconds", "peak MiB"))
-    texts = [(kind, LIMIT) for kind in ("names", "marks", "uses", "nested", "undefs", "program", "functions", "chain", "wide")]
-    wrong = 0
-    for kind, most in (*texts, ("calls", 821), ("calls", 2681), ("loops", 15_400), ("loops", 61_400)):
-        with tempfile.TemporaryFile() as output:
-            status, seconds, peak = run_once([FRONT_SPEED, kind, str(most)], None, output)
+def least(words, text, repeats=3):
+    """The status, the least processor time of some runs over a text, the greatest peak, and what the last one printed."""
+    seconds, peak = None, 0
+    for _ in range(repeats):
+        with tempfile.TemporaryFile() as given, tempfile.TemporaryFile() as output:
+            given.write(text)
+            given.seek(0)
+            child = subprocess.Popen(words, stdin=given, stdout=output, stderr=subprocess.DEVNULL)
+            _, status, usage = os.wait4(child.pid, 0)
             output.seek(0)
-            said = output.read().decode().split() or ["", ""]
-        print("%-9s %8d %10s %10s %10.3f %12.1f" % (kind, status, said[0], said[1], seconds, peak))
-        # (a text that is refused behind the lexer has no tokens)
-        wrong += status != 0 or said[1] == "0"
+            said = output.read().decode().split()
+        taken = usage.ru_utime + usage.ru_stime
+        seconds = taken if seconds is None else min(seconds, taken)
+        peak = max(peak, usage.ru_maxrss / 1024)
+    return os.waitstatus_to_exitcode(status), seconds, peak, said
+
+
+def front():
+    """The processor time of each text and of a tenth of it, and how long the stages take of which it has some."""
+    if not os.access(FRONT_SPEED, os.X_OK):
+        sys.exit("bench: front_speed is not built: run rt run in crates/front_speed once")
+    print("%-14s %6s %9s %8s %9s %7s  %s" % ("text", "status", "bytes", "seconds", "a tenth", "MiB", "after each stage"))
+    wrong = 0
+    for last, wanted, make in TEXTS:
+        text = make(LIMIT).encode()
+        status, seconds, peak, _ = least([FRONT_SPEED, last], text)
+        part = least([FRONT_SPEED, last], make(LIMIT // 10).encode())[1]
+        stages = ["%s %.2f" % (stage, least([FRONT_SPEED, stage], text)[1]) for stage in STAGES[:STAGES.index(last)]]
+        print("%-14s %6d %9d %8.2f %9.3f %7.0f  %s" % (make.__name__, status, len(text), seconds, part, peak, ", ".join(stages)), flush=True)
+        wrong += status != wanted
+    return failed(wrong)
+
+
+def counts_of(text, stage="lowered", times=1):
+    """What pass_speed says of a kernel: its measures, and then what it comes to."""
+    status, seconds, _, said = least([PASS_SPEED, stage, str(times)], text.encode(), 1 if times == 1 else 3)
+    return status, seconds, [int(number) for number in said]
+
+
+def largest_count(piece):
+    """How many times a body may stand in a kernel, by its nodes and its variables."""
+    status, _, once = counts_of(kernel(piece, 1), "program")
+    if status:
+        return 0
+    twice = counts_of(kernel(piece, 2), "program")[2]
+    room = [(most - one) // (two - one) for most, one, two in ((16_384, once[0], twice[0]), (256, once[1], twice[1])) if two > one]
+    return 1 + min(room)
+
+
+def show_passes(name, text):
+    """Prints the processor time of a kernel up to each pass, without that of its text."""
+    _, none, said = counts_of(text, "program", TIMES)
+    taken = [(counts_of(text, stage, TIMES)[1] - none) / TIMES * 1000 for stage in ("structured", "uniform", "lowered")]
+    print("%-44s %6d   structured %.2f, uniform %.2f, lowered %.2f" % (name, said[0], *taken), flush=True)
+
+
+def passes():
+    """The words of a node and the registers of each kernel of the family, and the time that the largest take."""
+    if not os.access(PASS_SPEED, os.X_OK):
+        sys.exit("bench: pass_speed is not built: run rt run in crates/pass_speed once")
+    found, wrong = [], 0
+    for name, piece in family():
+        count = largest_count(piece)
+        status, _, said = counts_of(kernel(piece, max(count, 1)))
+        if status or not count:
+            print("refused: " + name)
+            wrong += 1
+            continue
+        nodes, variables, depth, control, calls, _, _, _, registers, words = said
+        bound = variables + 2 * depth + 4 * control + 2 * calls + 16
+        wrong += words > 40 * nodes + 256 or registers > bound
+        found.append((words / nodes, bound - registers, name, piece, count, nodes, words, registers, bound))
+    print("%d kernels; words a node: at most %.2f; registers: at least %d below their bound" % (
+        len(found), max(found)[0], min(room for _, room, *_ in found)))
+    print("%-44s %6s %6s %6s %5s %5s   %s" % ("the most words a node", "nodes", "words", "a node", "regs", "bound", "of 40 N + 256"))
+    for ratio, _, name, piece, count, nodes, words, registers, bound in sorted(found, reverse=True)[:8]:
+        print("%-44s %6d %6d %6.2f %5d %5d   %.2f" % (name, nodes, words, ratio, registers, bound, words / (40 * nodes + 256)))
+    print("%-44s %6s   %s" % ("the largest, and a tenth of it", "nodes", "milliseconds after each pass"))
+    most = max(it[5] for it in found)
+    for _, _, name, piece, count, *_ in sorted((it for it in found if it[5] > most * 0.99), reverse=True)[:6]:
+        show_passes(name, kernel(piece, count))
+        show_passes(name, kernel(piece, count // 10))
+    for variables in (25, 250):
+        show_passes("%d marks fall, one in a sweep" % variables, backward(variables, 16_384))
     return failed(wrong)
 
 
@@ -190,6 +265,8 @@ def main():
         return core()
     if sys.argv[1:] == ["front"]:
         return front()
+    if sys.argv[1:] == ["passes"]:
+        return passes()
     if not os.access(PROGRAM, os.X_OK):
         sys.exit("bench: the program is not built: run ./vx once")
     print("%-12s %8s %10s %12s" % ("input", "status", "seconds", "peak MiB"))
