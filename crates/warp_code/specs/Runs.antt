@@ -1,5 +1,5 @@
 -- Runs of a warp, and what each of its lanes took part in: the answers to what it asked for, and what its control registers answered.
-use Rattle.std.specs.Prelude.{◌≡◌, ℕ, Bool, true, false, if◌then◌else◌, List, [], ◌∷◌, drop}
+use Rattle.std.specs.Prelude.{◌≡◌, ℕ, if◌then◌else◌, List, [], ◌∷◌, drop}
 use Rattle.item_acts.specs.declared.acts.Action.{Action}
 use Rattle.item_acts.specs.Machine as lanes
 use Rattle.item_acts.specs.Machine.{Go, Ask, Stop}

@@ -1,6 +1,6 @@
 -- A warp over code for its lanes: each active lane makes its own step, at the same operation, and a stack keeps which lanes wait. Sets of
 -- lanes and the stack are those of the machine, with places in code for addresses.
-use Rattle.std.specs.Prelude.{◌≡◌, ℕ, suc, ◌+◌, ◌%◌, ◌==◌, Bool, true, false, not, ◌&&◌, ◌||◌, nat_eq, nat_lt, nat_le, if◌then◌else◌, List, [], ◌∷◌, length, drop}
+use Rattle.std.specs.Prelude.{ℕ, suc, ◌+◌, ◌%◌, ◌==◌, Bool, true, false, not, ◌&&◌, nat_lt, nat_le, if◌then◌else◌, List, [], ◌∷◌, length, drop}
 use Rattle.item_acts.specs.declared.acts.Place.{Place}
 use Rattle.item_acts.specs.Machine as lanes
 use Rattle.item_acts.specs.Machine.{Go, Ask, Stop}

@@ -1,0 +1,4 @@
+pub mod Ranges
+pub mod WordItems
+pub mod Limits
+pub mod Lanes

@@ -1,0 +1,4 @@
+pub mod Source
+pub mod Sizes
+pub mod Accesses
+pub mod Passes
