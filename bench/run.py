@@ -14,6 +14,8 @@
                       that program
   bench/run.py core   millions of instructions a second of processor time of one core with 1 and 16 warps, in a loop with a load
                       and a store on words of its own; after rt ci or, in crates/core_steps, rt run has built that program
+  bench/run.py text   millions of bytes a second of processor time: ints from bytes into words, to reach 1,000, and ints in words to
+                      lines, to reach 200; after rt ci or, in crates/text_speed, rt run has built that program
 
 It fails where a program ends with another status than it is to. The peak is never below that of the interpreter that starts the program, about 14 MiB.
 """
@@ -36,6 +38,7 @@ LANE_STEPS = os.path.join(TOP, "crates", "lane_steps", "out", "lane_steps")
 CORE_STEPS = os.path.join(TOP, "crates", "core_steps", "out", "core_steps")
 FRONT_SPEED = os.path.join(TOP, "crates", "front_speed", "out", "front_speed")
 PASS_SPEED = os.path.join(TOP, "crates", "pass_speed", "out", "pass_speed")
+TEXT_SPEED = os.path.join(TOP, "crates", "text_speed", "out", "text_speed")
 STEPS = 20_000_000
 WARP_STEPS = 10_000_000
 GROUP_STEPS = 10_000_000
@@ -169,6 +172,31 @@ def core():
     return 0
 
 
+def text_of(way, times):
+    """The least processor time of three runs, and how many bytes the program says."""
+    least = None
+    for _ in range(3):
+        child = subprocess.Popen([TEXT_SPEED, way, str(times)], stdout=subprocess.PIPE)
+        said = child.stdout.read()
+        _, status, usage = os.wait4(child.pid, 0)
+        if os.waitstatus_to_exitcode(status) != 0:
+            sys.exit("bench: text_speed failed")
+        taken = usage.ru_utime + usage.ru_stime
+        least = taken if least is None else min(least, taken)
+    return least, int(said)
+
+
+def text():
+    """What starting up takes is measured with one round, and taken off."""
+    if not os.access(TEXT_SPEED, os.X_OK):
+        sys.exit("bench: text_speed is not built: run rt run -- in 1 in crates/text_speed once")
+    print("%-4s %14s" % ("way", "bytes, M/s"))
+    for way, times in (("in", 101), ("out", 6)):
+        (one, few), (all_rounds, many) = text_of(way, 1), text_of(way, times)
+        print("%-4s %14.1f" % (way, (many - few) / (all_rounds - one) / 1e6))
+    return 0
+
+
 def least(words, text, repeats=3):
     """The status, the least processor time of some runs over a text, the greatest peak, and what the last one printed."""
     seconds, peak = None, 0
@@ -263,6 +291,8 @@ def main():
         return lanes()
     if sys.argv[1:] == ["core"]:
         return core()
+    if sys.argv[1:] == ["text"]:
+        return text()
     if sys.argv[1:] == ["front"]:
         return front()
     if sys.argv[1:] == ["passes"]:
