@@ -11,4 +11,5 @@ pub mod Goings
 pub mod Bringing
 pub mod Computing
 pub mod Acting
+pub mod ComputingAlong
 pub mod Worked
