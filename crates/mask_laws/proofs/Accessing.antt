@@ -2,7 +2,7 @@
 use Rattle.std.proofs.Common.{◌≡◌, ℕ, suc, inr, List, [], ◌∷◌, drop, refl, ap, sym, ◌∙◌, subst}
 use Rattle.item_acts.specs.declared.acts.Action.{Action}
 use Rattle.item_acts.specs.declared.acts.Action.TheVariants.{Load, Store}
-use Rattle.item_acts.specs.Machine.{Go, Ask}
+use Rattle.item_acts.specs.Machine.{Ask}
 use Rattle.item_settings.specs.Settings.{elem_size, low_bytes}
 use Rattle.kir.specs.Machine.{value}
 use Rattle.vcode.specs.Code.{VOp, Word, WordAt, Fetch, Write}

@@ -18,6 +18,7 @@ pub mod RunLaw
 pub mod Opening
 pub mod Starting
 pub mod Promising
+pub mod HonestRuns
 pub mod ItemLanes
 pub mod BarLaw
 pub mod Law

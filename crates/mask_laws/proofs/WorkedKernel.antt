@@ -16,7 +16,7 @@ use Rattle.simt_lowering.specs.Lowered.{Known, lowered}
 use Rattle.warp_code.specs.Warps.{Crew, VLane, VWarp, warp_step}
 
 abbrev crew : Crew
-crew = record { ids = record { core = 0; warp = 0; lanes = 4 }; block = λ n. 0; places = λ l address. Global 0 address }
+crew = record { ids = record { core = 0; warp = 0; lanes = 4 }; block = slice_index (2 ∷ []); places = λ l address. Global 0 address }
 
 abbrev known : Known
 known = record { marks = λ r. false; params = []; arrays = record { elem = Uint; count = 3 } ∷ []; variables = 4 }
@@ -80,6 +80,15 @@ row_of_kernel = refl
 turns_at_barrier : map (λ (v : VLane). v.turns) (lanes_in (steps 20 start).lanes) ≡ (0 ∷ []) ∷ (1 ∷ []) ∷ (1 ∷ []) ∷ (1 ∷ []) ∷ []
 unfolding lanes_below least_below
 turns_at_barrier = refl
+
+-- the barrier waits for the two warps of the group, in each turn, however many lanes ask for it
+waits_for_warps : (warp_step crew code (λ l. 0) (steps 6 start)).outcome ≡ step.Wait 5 2
+unfolding lanes_below least_below
+waits_for_warps = refl
+
+waits_again : (warp_step crew code (λ l. 0) (steps 20 start)).outcome ≡ step.Wait 5 2
+unfolding lanes_below least_below
+waits_again = refl
 
 -- the check traps by the only lane whose index is not below the count
 traps_last : (warp_step crew code (λ l. 0) (steps 46 start)).outcome ≡ step.Trap Break 3 19

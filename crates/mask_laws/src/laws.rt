@@ -1,6 +1,7 @@
 //! The laws of a warp over lowered code, each as a contract. The functions themselves do nothing.
 ghost use Rattle.mask_laws.specs.Accesses.{AccessesAreNamed};
 ghost use Rattle.mask_laws.specs.Clean.{LanesBeginClean};
+ghost use Rattle.mask_laws.specs.Honest.{HonestAnswersGiveHonestRuns};
 ghost use Rattle.mask_laws.specs.Laws.{WarpsInStep};
 
 /// From its start a warp passes to the lanes that have an item, whatever is answered. From there on it does for each of its lanes what
@@ -18,4 +19,10 @@ pub fn lanes_begin_clean()
 /// Each access of an active lane is to a word that the launch block has, or is what the lane's item asks to load or to store next.
 pub fn accesses_are_named()
     ensures { AccessesAreNamed }
+{}
+
+/// Where each load of an array of constants is answered what its place held at the opening, active lanes that read at one address in one step get
+/// one answer.
+pub fn honest_answers_give_honest_runs()
+    ensures { HonestAnswersGiveHonestRuns }
 {}
