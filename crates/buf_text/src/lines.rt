@@ -5,6 +5,7 @@ ghost use Rattle.vx_base.specs.Values.{elem_bytes, signed_of};
 ghost use Rattle.buf_text.specs.Lines.{behind_text, element_in, element_text, has_sign, head_text, line_of, rest_text, row_text, value_text};
 
 use crate::word_bytes::byte_at;
+use itoa::Buffer;
 use std::alloc::Global;
 use vx_base::{Elem, Memory, Size, Text, WordList, fit, get_le};
 
@@ -74,31 +75,30 @@ fn place_of(elem: Elem, at: u32, number: u32) -> usize
     at as usize + many
 }
 
-fn push_signed(alloc: Global, text: &mut Vec<u8>, word: u32) -> Result<(), Memory>
+fn push_signed(text: &mut Vec<u8>, word: u32) -> Result<(), Memory>
     ensures { OnOk result (text.new.items ≡ text.old.items ++ signed_decimal (signed_of word)) }
 {
-    let number = word.cast_signed();
-    let digits = format!(in alloc; "{number}")?;
-    text.extend_from_slice(digits.as_bytes())?;
+    let mut digits = Buffer::new();
+    text.extend_from_slice(digits.format(word.cast_signed()).as_bytes())?;
     Ok(())
 }
 
-fn push_unsigned(alloc: Global, text: &mut Vec<u8>, word: u32) -> Result<(), Memory>
+fn push_unsigned(text: &mut Vec<u8>, word: u32) -> Result<(), Memory>
     ensures { OnOk result (text.new.items ≡ text.old.items ++ decimal word) }
 {
-    let digits = format!(in alloc; "{word}")?;
-    text.extend_from_slice(digits.as_bytes())?;
+    let mut digits = Buffer::new();
+    text.extend_from_slice(digits.format(word).as_bytes())?;
     Ok(())
 }
 
-fn push_value(alloc: Global, text: &mut Vec<u8>, elem: Elem, word: u32) -> Result<(), Memory>
+fn push_value(text: &mut Vec<u8>, elem: Elem, word: u32) -> Result<(), Memory>
     ensures { OnOk result (text.new.items ≡ text.old.items ++ value_text elem word) }
 {
     let value = fit(elem, word);
     if is_signed(elem) {
-        push_signed(alloc, text, value)
+        push_signed(text, value)
     } else {
-        push_unsigned(alloc, text, value)
+        push_unsigned(text, value)
     }
 }
 
@@ -144,43 +144,30 @@ impl BufLines {
 
     /// The element with a number.
     #[tactic(auto, using(crate::proofs::LineLaws::room))]
-    fn push_element(
-        &self,
-        alloc: Global,
-        text: &mut Vec<u8>,
-        words: &[u32],
-        number: u32,
-    ) -> Result<(), Memory>
+    fn push_element(&self, text: &mut Vec<u8>, words: &[u32], number: u32) -> Result<(), Memory>
         requires within { number < self.now.count }
         requires room { self.now.at + elem_bytes self.now.elem * self.now.count ≤ 4 * length words.now }
         ensures { OnOk result (text.new.items
             ≡ text.old.items ++ element_text words.now self.now.elem self.now.at number) }
     {
         let place = place_of(self.elem, self.at, number);
-        push_value(alloc, text, self.elem, element(words, self.elem, place))
+        push_value(text, self.elem, element(words, self.elem, place))
     }
 
     /// The same behind a space.
-    fn push_behind(
-        &self,
-        alloc: Global,
-        text: &mut Vec<u8>,
-        words: &[u32],
-        number: u32,
-    ) -> Result<(), Memory>
+    fn push_behind(&self, text: &mut Vec<u8>, words: &[u32], number: u32) -> Result<(), Memory>
         requires within { number < self.now.count }
         requires room { self.now.at + elem_bytes self.now.elem * self.now.count ≤ 4 * length words.now }
         ensures { OnOk result (text.new.items
             ≡ text.old.items ++ behind_text words.now self.now.elem self.now.at number) }
     {
         text.push(b' ')?;
-        self.push_element(alloc, text, words, number)
+        self.push_element(text, words, number)
     }
 
     /// The elements of a line behind its first.
     fn push_rest(
         &self,
-        alloc: Global,
         text: &mut Vec<u8>,
         words: &[u32],
         first: u32,
@@ -193,7 +180,7 @@ impl BufLines {
             ≡ text.old.items ++ rest_text words.now self.now.elem self.now.at first many) }
     {
         for step in 1..many {
-            self.push_behind(alloc, text, words, first + step)?;
+            self.push_behind(text, words, first + step)?;
         }
         Ok(())
     }
@@ -206,8 +193,8 @@ impl BufLines {
             ≡ row_text words.now self.now.elem self.now.at first (min 16 (self.now.count - first))) }
     {
         let mut text = Vec::new(alloc);
-        self.push_element(alloc, &mut text, words, first)?;
-        self.push_rest(alloc, &mut text, words, first, ROW.min(self.count - first))?;
+        self.push_element(&mut text, words, first)?;
+        self.push_rest(&mut text, words, first, ROW.min(self.count - first))?;
         text.push(b'\n')?;
         Ok(text)
     }
