@@ -6,15 +6,19 @@
 //! - `file`: `ok`, or the fault for which the file is refused.
 //! - `tree`: the wanted words, which ` .. ` parts, if the tree has them in this order, and else its fault or `other`.
 //! - `typed`: the same of the program.
+//! - `image`: how many words of the image of kernel `k` part a warp, or why it has no image.
 
 ghost use Rattle.std.specs.Prelude.{◌≤◌, length};
 
 use crate::tokens::tokens_text;
+use kernel_images::compile;
 use ocl_ast::Unit;
 use ocl_lex::lex;
 use ocl_parser::parse;
+use rv_encode::decode;
 use std::alloc::{AllocError, Global};
 use vx_cc::{SourceFault, front};
+use vx_isa::Instr;
 
 /// The most bytes that a file may have.
 const LIMIT: usize = 1_048_576;
@@ -32,6 +36,7 @@ pub fn answer(alloc: Global, ask: &str, wanted: &str, text: &str) -> Result<Stri
         "file" => file_text(alloc, bytes),
         "tree" => tree_text(alloc, wanted, bytes),
         "typed" => typed_text(alloc, wanted, bytes),
+        "image" => image_text(alloc, bytes),
         _ => String::from_str(alloc, "nothing is asked"),
     }
 }
@@ -126,5 +131,30 @@ fn typed_text(alloc: Global, wanted: &str, text: &[u8]) -> Result<String, AllocE
             words_in(alloc, wanted, format!(in alloc; "{bodies:?}")?.as_str())
         }
         Err(fault) => fault_text(alloc, fault),
+    }
+}
+
+/// How many words part a warp.
+fn count_splits(words: &[u32]) -> u32 {
+    let mut count = 0_u32;
+    for word in words {
+        if let Some(Instr::Split { .. }) = decode(*word) {
+            count = count.saturating_add(1);
+        }
+    }
+    count
+}
+
+/// How many words of the image of a text's kernel `k` part a warp, or why it has no image.
+fn image_text(alloc: Global, text: &[u8]) -> Result<String, AllocError>
+    requires { length text.now ≤ 1048576 }
+{
+    let program = match front(alloc, text) {
+        Ok(program) => program,
+        Err(fault) => return fault_text(alloc, fault),
+    };
+    match compile(alloc, &program, b"k") {
+        Ok(image) => format!(in alloc; "{} splits", count_splits(image.words.items.as_slice())),
+        Err(fault) => format!(in alloc; "{fault}"),
     }
 }
