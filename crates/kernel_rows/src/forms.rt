@@ -1,26 +1,36 @@
-//! The forms of a kernel: as its text has it, with its calls expanded, in normal form, and with flags in place of jumps.
+//! The forms of a kernel: as its text has it, with its calls expanded, in normal form, with flags in place of jumps, and as code for
+//! lanes, each lane alone.
 
-ghost use Rattle.std.specs.Prelude.{◌≡◌, ◌<◌, Some, length, map};
+ghost use Rattle.std.specs.Prelude.{◌≡◌, ◌<◌, ◌≤◌, ◌^◌, IfSome, Some, length, map, true};
+ghost use Rattle.ocl_program.specs.Measures.{measured, own_depth};
 ghost use Rattle.ocl_program.specs.Shapes.{function_node};
 ghost use Rattle.ocl_inline.specs.Shapes.{kernel_of};
 ghost use Rattle.ocl_inline.specs.FlatItems.{flat_at};
+ghost use Rattle.structured.specs.Ready.{IsKernel};
 
 use crate::bytes::Bytes;
+use crate::lanes::Lanes;
+use crate::marks::marks_text;
 use crate::rows::Row;
-use crate::runs::{Run, run_launch};
+use crate::runs::{FormItems, Run, run_launch};
 use item_acts::{Bound, BoundList, ItemCode, Range};
 use kir::{Kir, KirItems};
 use kir_flow::flags;
+use lane_kernels::lane_kernel;
 use ocl_inline::{Flat, expand};
 use ocl_launch::{fits, flat_items_of, items_of};
 use ocl_norm::normalise;
 use ocl_types::Program;
 use std::alloc::{AllocError, Global};
+use structured::laws::found_are_kernels;
 use vx_base::{ListOf, Memory, ParamKind};
 use vx_cc::front;
 
 /// The most bytes that a file may have.
 const LIMIT: usize = 1_048_576;
+
+/// The most levels that an expression may have with its calls expanded.
+const LEVELS: u32 = 0x8000_0000;
 
 /// How many bytes the buffer of a launch has.
 const BYTES: u32 = 32;
@@ -31,23 +41,37 @@ fn count_of(range: Range) -> u32 {
     x.saturating_mul(y).saturating_mul(z).min(64)
 }
 
-/// The buffer for a kernel whose one parameter is a pointer.
-fn bounds_of(alloc: Global, program: &Program, kernel: u32) -> Result<BoundList, AllocError>
+/// What a parameter stands for: the buffer, or the row's number.
+fn bound_of(row: &Row, kind: ParamKind) -> Bound {
+    match kind {
+        ParamKind::Scalar(_) => Bound::Value(row.scalar),
+        ParamKind::Pointer { elem, .. } => {
+            let count = BYTES.checked_div(elem.size().bytes()).unwrap_or(0);
+            Bound::Array { place: 0, count }
+        }
+    }
+}
+
+/// What the parameters of a kernel stand for.
+fn bounds_of(
+    alloc: Global,
+    row: &Row,
+    program: &Program,
+    kernel: u32,
+) -> Result<BoundList, AllocError>
     requires { kernel < length program.now.functions.items }
 {
     let mut items = Vec::new(alloc);
     for param in program.params(kernel).as_slice() {
-        if let ParamKind::Pointer { elem, .. } = param.kind {
-            let count = BYTES.checked_div(elem.size().bytes()).unwrap_or(0);
-            items.push(Bound::Array { place: 0, count })?;
-        }
+        items.push(bound_of(row, param.kind))?;
     }
     Ok(ListOf { items })
 }
 
 /// Runs the items of a row's launch.
 fn run_items<I: ItemCode>(alloc: Global, row: &Row, items: &I) -> Result<Run, Memory> {
-    run_launch(alloc, items, count_of(row.range), Bytes::of(row.given))
+    let askers = FormItems { form: items };
+    run_launch(alloc, &askers, count_of(row.range), Bytes::of(row.given))
 }
 
 /// Runs a kernel as its text has it. None if its parameter is no pointer.
@@ -59,7 +83,7 @@ fn run_source(
 ) -> Result<Option<Run>, Memory>
     requires { kernel < length program.now.functions.items }
 {
-    let bounds = bounds_of(alloc, program, kernel)?;
+    let bounds = bounds_of(alloc, row, program, kernel)?;
     if !fits(program, kernel, &bounds) {
         return Ok(None);
     }
@@ -78,7 +102,7 @@ fn run_flat(
     requires exists { kernel < length program.now.functions.items }
     requires flat { flat_at (map function_node program.now.functions.items) kernel ≡ Some (kernel_of flat.now) }
 {
-    let bounds = bounds_of(alloc, program, kernel)?;
+    let bounds = bounds_of(alloc, row, program, kernel)?;
     if !fits(program, kernel, &bounds) {
         return Ok(None);
     }
@@ -145,20 +169,52 @@ fn push_code(
         said.push_str(", no normal form")?;
         return Ok(());
     };
-    let ran = run_code(alloc, row, &normal, bounds_of(alloc, program, kernel)?)?;
+    let ran = run_code(alloc, row, &normal, bounds_of(alloc, row, program, kernel)?)?;
     push_difference(said, "normal form", source, ran.actions.as_str())?;
     let Some(flagged) = flagged_of(alloc, &normal)? else {
         said.push_str(", no flags")?;
         return Ok(());
     };
-    let ran = run_code(alloc, row, &flagged, bounds_of(alloc, program, kernel)?)?;
+    let ran = run_code(
+        alloc,
+        row,
+        &flagged,
+        bounds_of(alloc, row, program, kernel)?,
+    )?;
     push_difference(said, "flags", source, ran.actions.as_str())?;
+    Ok(())
+}
+
+/// Says that lanes alone ask for other actions than the source does, if they do so.
+fn push_lanes(
+    said: &mut String,
+    alloc: Global,
+    row: &Row,
+    program: &Program,
+    kernel: u32,
+    source: &str,
+) -> Result<(), Memory>
+    requires exists { kernel < length program.now.functions.items }
+    requires kernel { IsKernel (map function_node program.now.functions.items) kernel }
+    requires depth { measured own_depth (map function_node program.now.functions.items) kernel ≤ 2 ^ 31 }
+{
+    let code = lane_kernel(alloc, program, kernel)?;
+    let bounds = bounds_of(alloc, row, program, kernel)?;
+    let lanes = Lanes {
+        code: &code,
+        range: row.range,
+        bounds: bounds.as_slice(),
+    };
+    let ran = run_launch(alloc, &lanes, count_of(row.range), Bytes::of(row.given))?;
+    push_difference(said, "lanes", source, ran.actions.as_str())?;
     Ok(())
 }
 
 /// How the launch of a kernel ends, and which forms of it ask for other actions than the source does.
 fn answer_kernel(alloc: Global, row: &Row, program: &Program, kernel: u32) -> Result<String, Memory>
-    requires { kernel < length program.now.functions.items }
+    requires exists { kernel < length program.now.functions.items }
+    requires kernel { IsKernel (map function_node program.now.functions.items) kernel }
+    requires depth { measured own_depth (map function_node program.now.functions.items) kernel ≤ 2 ^ 31 }
 {
     let Some(source) = run_source(alloc, row, program, kernel)? else {
         return Ok(String::from_str(alloc, "another parameter")?);
@@ -170,7 +226,39 @@ fn answer_kernel(alloc: Global, row: &Row, program: &Program, kernel: u32) -> Re
         push_difference(&mut said, "calls expanded", actions, ran.actions.as_str())?;
     }
     push_code(&mut said, alloc, row, program, kernel, &flat, actions)?;
+    push_lanes(&mut said, alloc, row, program, kernel, actions)?;
     Ok(said)
+}
+
+/// The number of the kernel `k`.
+fn kernel_of(program: &Program) -> Option<u32>
+    ensures exists { IfSome result (λ k. k < length program.now.functions.items) }
+    ensures kernel { IfSome result (λ k. IsKernel (map function_node program.now.functions.items) k) }
+{
+    found_are_kernels();
+    program.find(b"k")
+}
+
+/// Whether the expressions of a kernel have few enough levels for structured code.
+fn is_shallow(program: &Program, kernel: u32) -> bool
+    requires { kernel < length program.now.functions.items }
+    ensures { result ≡ true → measured own_depth (map function_node program.now.functions.items) kernel ≤ 2 ^ 31 }
+{
+    program.measures(kernel).depth <= LEVELS
+}
+
+/// What a row with a kernel comes to.
+fn answer_program(alloc: Global, row: &Row, program: &Program) -> Result<String, Memory> {
+    let Some(kernel) = kernel_of(program) else {
+        return Ok(String::from_str(alloc, "no kernel k")?);
+    };
+    if !is_shallow(program, kernel) {
+        return Ok(String::from_str(alloc, "too deep")?);
+    }
+    match row.wanted.as_str().strip_prefix("marks ") {
+        Some(wanted) => marks_text(alloc, program, kernel, wanted),
+        None => answer_kernel(alloc, row, program, kernel),
+    }
 }
 
 /// What a row comes to: how the launch of its kernel `k` ends, and which forms of it ask for other actions than the source does.
@@ -186,8 +274,5 @@ pub fn answer(alloc: Global, row: &Row) -> Result<String, Memory> {
             return Ok(format!(in alloc; "{} {}:{}", fault.kind, pos.line, pos.col)?);
         }
     };
-    match program.find(b"k") {
-        Some(kernel) => answer_kernel(alloc, row, &program, kernel),
-        None => Ok(String::from_str(alloc, "no kernel k")?),
-    }
+    answer_program(alloc, row, &program)
 }

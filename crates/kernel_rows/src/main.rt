@@ -6,6 +6,8 @@
 
 mod bytes;
 mod forms;
+mod lanes;
+mod marks;
 mod rows;
 mod runs;
 

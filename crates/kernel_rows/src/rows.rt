@@ -1,5 +1,6 @@
 //! Rows as they are written: a head `=== WANTED`, a line `items 8 of 4` or `items 4 2 1 of 2 2 1` with the numbers of work-items and
-//! those of a group in each dimension, a line `given` with the eight words of the buffer, and the lines of the kernel's file.
+//! those of a group in each dimension, a line `given` with the eight words of the buffer, a line `scalar` with the number for which each
+//! scalar parameter stands, and the lines of the kernel's file.
 
 use crate::bytes::COUNT;
 use item_acts::Range;
@@ -16,6 +17,8 @@ pub struct Row {
     pub range: Range,
     /// The words of the buffer before the launch.
     pub given: [u32; COUNT],
+    /// The number for which each scalar parameter stands.
+    pub scalar: u32,
 }
 
 /// Eight work-items in two groups.
@@ -33,6 +36,7 @@ impl Row {
             text: String::new(alloc),
             range: EIGHT,
             given: [0; COUNT],
+            scalar: 0,
         })
     }
 
@@ -44,6 +48,10 @@ impl Row {
         }
         if let Some(words) = line.strip_prefix("given ") {
             self.given = words_of(words);
+            return Ok(());
+        }
+        if let Some(word) = line.strip_prefix("scalar ") {
+            self.scalar = word_of(word);
             return Ok(());
         }
         self.text.push_str(line)?;

@@ -14,6 +14,37 @@ const ACTIONS: u32 = 1_000;
 /// How many times all items may go on to their next barriers.
 const ROUNDS: u32 = 100;
 
+/// All who ask for actions in a launch: the items of a form of a kernel, or the lanes of its code.
+pub trait Askers {
+    /// What the one of this number asks for once it has taken some answers, within so many small steps.
+    fn next(
+        &self,
+        alloc: Global,
+        number: u32,
+        answers: &[u32],
+        steps: u64,
+    ) -> Result<Asked, Memory>;
+}
+
+/// The items of a form of a kernel.
+#[derive(Drop)]
+pub struct FormItems<'a, I> {
+    /// The form.
+    pub form: &'a I,
+}
+
+impl<'a, I: ItemCode> Askers for FormItems<'a, I> {
+    fn next(
+        &self,
+        alloc: Global,
+        number: u32,
+        answers: &[u32],
+        steps: u64,
+    ) -> Result<Asked, Memory> {
+        self.form.next(alloc, number, answers, steps)
+    }
+}
+
 /// Why an item goes on no further alone.
 #[derive(Clone, Copy)]
 enum Pause {
@@ -44,7 +75,7 @@ pub struct Run {
 }
 
 /// Lets an item make one action. None if it goes on after it.
-fn act<I: ItemCode>(
+fn act<I: Askers>(
     alloc: Global,
     items: &I,
     way: &mut Way,
@@ -69,7 +100,7 @@ fn act<I: ItemCode>(
 }
 
 /// Lets an item go on until it can go no further alone.
-fn go<I: ItemCode>(
+fn go<I: Askers>(
     alloc: Global,
     items: &I,
     way: &mut Way,
@@ -98,7 +129,7 @@ fn ways_of(alloc: Global, count: u32) -> Result<Vec<Way>, AllocError> {
 }
 
 /// Lets each item go on that has not ended. None if one waits at a barrier, and else how the launch ended.
-fn go_all<I: ItemCode>(
+fn go_all<I: Askers>(
     alloc: Global,
     items: &I,
     ways: &mut [Way],
@@ -130,7 +161,7 @@ fn go_all<I: ItemCode>(
 }
 
 /// Runs so many items over some words.
-pub fn run_launch<I: ItemCode>(
+pub fn run_launch<I: Askers>(
     alloc: Global,
     items: &I,
     count: u32,
