@@ -7,7 +7,7 @@ use Rattle.memory_banks.specs.declared.entry.BusEntry.{BusEntry}
 use Rattle.memory_banks.specs.Entries.{entries_of}
 use Rattle.l1_cache.specs.Lines.{Lines, change_of, line_in, no_lines, set_of, with_change}
 use Rattle.core_bytes.specs.BusRuns.{BusRun, CoreDid, place_after, places}
-use Rattle.core_bytes.specs.Deeds.{Act, ActsSo, Deed, Does, DoesAll, Draining, Kept, Reading, Writing, entries_in}
+use Rattle.core_bytes.specs.Deeds.{Act, ActsSo, Deed, Does, DoesAll, Draining, CacheWithPolicy, Reading, Writing, entries_in}
 use Rattle.core_bytes.specs.OwnBytes.{AnswersOwn, byte_in, own_byte, written}
 use Rattle.core_bytes.proofs.CarriedBytes.{changes_byte, write_byte}
 use Rattle.core_bytes.proofs.EndBytes.{other_quiet}
@@ -36,7 +36,7 @@ act_right evicts b n made mark port (Writing a size value) entries rest lines po
 act_right evicts b n made mark port Draining entries rest lines policy lines' policy' x y le small h is right loads within =
     subst (λ (l : Lines). AreRight b x (set_of l (b / 64))) (sym h.0.lines_are) (right within)
 
-pub reads_own : {E : Type 0} (evicts : E → ℕ → ℕ → ℕ → ℕ → E → Type 0) (b n port made mark : ℕ) (deeds : List Deed) (k k' : Kept E) (x y : ℕ)
+pub reads_own : {E : Type 0} (evicts : E → ℕ → ℕ → ℕ → ℕ → E → Type 0) (b n port made mark : ℕ) (deeds : List Deed) (k k' : CacheWithPolicy E) (x y : ℕ)
     → mark ≤ made → x < 256 → DoesAll evicts port deeds k k' → x ≡ changes_byte b k.lines.waiting y → (mark ≤ n → AreRight b x (set_of k.lines (b / 64))) → AnsweredTo b y (n - made) (entries_in deeds)
     → (i a : ℕ) (size : Size) (answer j : ℕ) (entries : List BusEntry) → slice_get deeds i ≡ Some (record { act = Reading a size answer; entries = entries })
     → slice_index (marks_from made mark deeds) i ≤ n → j < bytes_of size → a + j ≡ b → byte_of answer j ≡ own_byte (take i deeds) b x

@@ -2,7 +2,7 @@
 use Rattle.std.proofs.Common.{◌≡◌, ℕ, List, [], ◌∷◌, ◌++◌, ap, ◌∙◌, sym, subst, refl, append_assoc}
 use Rattle.memory_banks.specs.declared.entry.BusEntry.{BusEntry}
 use Rattle.memory_banks.specs.Buses.{MakesAll}
-use Rattle.core_bytes.specs.Deeds.{Deed, DoesAll, Kept, entries_in}
+use Rattle.core_bytes.specs.Deeds.{Deed, DoesAll, CacheWithPolicy, entries_in}
 
 pub MakesAll-append : {B : Type 0} (acts : B → BusEntry → B → Type 0) (b : B) (es : List BusEntry) (m : B) (fs : List BusEntry) (c : B) → MakesAll acts b es m → MakesAll acts m fs c → MakesAll acts b (es ++ fs) c
 MakesAll-append acts b [] m fs c same more = subst (λ x. MakesAll acts x fs c) same more
@@ -13,7 +13,7 @@ pub MakesAll-map : {B C : Type 0} (acts : B → BusEntry → B → Type 0) (acts
 MakesAll-map acts acts' f keeps b [] c same = ap f same
 MakesAll-map acts acts' f keeps b (e ∷ es) c made = (f made.0, keeps b e made.0 made.1, MakesAll-map acts acts' f keeps made.0 es c made.2)
 
-pub DoesAll-append : {E : Type 0} (evicts : E → ℕ → ℕ → ℕ → ℕ → E → Type 0) (port : ℕ) (ds : List Deed) (es : List Deed) (k m n : Kept E) → DoesAll evicts port ds k m → DoesAll evicts port es m n → DoesAll evicts port (ds ++ es) k n
+pub DoesAll-append : {E : Type 0} (evicts : E → ℕ → ℕ → ℕ → ℕ → E → Type 0) (port : ℕ) (ds : List Deed) (es : List Deed) (k m n : CacheWithPolicy E) → DoesAll evicts port ds k m → DoesAll evicts port es m n → DoesAll evicts port (ds ++ es) k n
 DoesAll-append evicts port [] es k m n same more = subst (λ x. DoesAll evicts port es x n) same more
 DoesAll-append evicts port (d ∷ ds) es k m n done more = (done.0, done.1, DoesAll-append evicts port ds es done.0 m n done.2 more)
 

@@ -14,7 +14,7 @@ use Rattle.memory_banks.specs.Entries.{IsLegal, after, and_entry, answer_to, cha
 use Rattle.l1_cache.specs.Accesses.{CarriesOut, ReadsBy, carried, loads_from}
 use Rattle.l1_cache.specs.Lines.{Change, Line, Lines, all_changed, change_of, changed_line, changed_word, field_bits, in_front, leaving, line_in, no_lines, part_of, put_in, set_of, with_changes}
 use Rattle.core_bytes.specs.BusRuns.{BusRun, CoreDid, IsOfCore}
-use Rattle.core_bytes.specs.Deeds.{Act, ActsSo, Deed, DoesAll, Draining, Kept, Reading, Writing, entries_in}
+use Rattle.core_bytes.specs.Deeds.{Act, ActsSo, Deed, DoesAll, Draining, CacheWithPolicy, Reading, Writing, entries_in}
 use Rattle.core_bytes.specs.FittingWords.{AnswersFit, DeedWritesWord, IsWord, StayWords, WordsGoIn, WritesWord}
 use Rattle.core_bytes.proofs.OtherCores.{all_append, all_drop, all_take}
 use Rattle.core_bytes.proofs.RightLines.{all_filter, found_right}
@@ -272,7 +272,7 @@ act_keeps evicts port Draining entries lines policy lines' policy' h writes fits
   waiting = subst (λ (l : Lines). AllByRecursion FittingChange l.waiting) (sym h.0.lines_are) tt;
 }
 
-deeds_keep : {E : Type 0} (evicts : E → ℕ → ℕ → ℕ → ℕ → E → Type 0) (port : ℕ) (deeds : List Deed) (k k' : Kept E)
+deeds_keep : {E : Type 0} (evicts : E → ℕ → ℕ → ℕ → ℕ → E → Type 0) (port : ℕ) (deeds : List Deed) (k k' : CacheWithPolicy E)
     → DoesAll evicts port deeds k k' → AllByRecursion DeedWritesWord deeds → AllByRecursion FittingChange k.lines.waiting → AllByRecursion KeepsWord (entries_in deeds)
 deeds_keep evicts port [] k k' does writes fits = tt
 deeds_keep evicts port (d ∷ deeds) k k' does writes fits =
@@ -290,7 +290,7 @@ other_part P (x ∷ xs) ys all = other_part P xs ys all.1
 abbrev pub DeedFits : Deed → Type 0
 DeedFits d = AnswerFits d.act
 
-deeds_fit : {E : Type 0} (evicts : E → ℕ → ℕ → ℕ → ℕ → E → Type 0) (port : ℕ) (deeds : List Deed) (k k' : Kept E)
+deeds_fit : {E : Type 0} (evicts : E → ℕ → ℕ → ℕ → ℕ → E → Type 0) (port : ℕ) (deeds : List Deed) (k k' : CacheWithPolicy E)
     → DoesAll evicts port deeds k k' → AllByRecursion DeedWritesWord deeds → FittingLines k.lines → AllByRecursion LoadsWord (entries_in deeds) → AllByRecursion DeedFits deeds
 deeds_fit evicts port [] k k' does writes fits loads = tt
 deeds_fit evicts port (d ∷ deeds) k k' does writes fits loads =

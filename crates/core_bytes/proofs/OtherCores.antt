@@ -10,7 +10,7 @@ use Rattle.memory_banks.specs.Entries.{and_entry, load_entry, or_entry, store_en
 use Rattle.l1_cache.specs.Accesses.{CarriesOut, ReadsBy, carried, loads_from}
 use Rattle.l1_cache.specs.Lines.{Change, Line, Lines, change_of, leaving, line_in}
 use Rattle.core_bytes.specs.BusRuns.{loads, place_after, places_from}
-use Rattle.core_bytes.specs.Deeds.{Act, ActsSo, Deed, DoesAll, Draining, Kept, Reading, Writing, entries_in}
+use Rattle.core_bytes.specs.Deeds.{Act, ActsSo, Deed, DoesAll, Draining, CacheWithPolicy, Reading, Writing, entries_in}
 use Rattle.core_bytes.specs.OwnBytes.{writes}
 use Rattle.core_bytes.proofs.CarriedBytes.{IsQuietChange, no_byte, or_none, write_quiet}
 use Rattle.core_bytes.proofs.ByteChanges.{and_all}
@@ -167,7 +167,7 @@ write_mark (Writing address size value) entries b into = refl
 write_mark Draining entries b into = absurd (true≢false (sym into))
 
 -- Where the marks of all writes of a byte are no less than n, the first n entries of a core are quiet on it.
-pub deeds_quiet : {E : Type 0} (evicts : E → ℕ → ℕ → ℕ → ℕ → E → Type 0) (b port n made mark : ℕ) (deeds : List Deed) (k k' : Kept E)
+pub deeds_quiet : {E : Type 0} (evicts : E → ℕ → ℕ → ℕ → ℕ → E → Type 0) (b port n made mark : ℕ) (deeds : List Deed) (k k' : CacheWithPolicy E)
     → mark ≤ made → DoesAll evicts port deeds k k' → AllQuietChanges b k.lines.waiting
     → ((i : ℕ) (d : Deed) → slice_get deeds i ≡ Some d → writes d.act b ≡ true → n ≤ slice_index (marks_from made mark deeds) i)
     → QuietTo b (n - made) (entries_in deeds)

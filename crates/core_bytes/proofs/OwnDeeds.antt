@@ -8,7 +8,7 @@ use Rattle.vx_base.specs.Bytes.{byte_of}
 use Rattle.memory_banks.specs.declared.entry.BusEntry.{BusEntry}
 use Rattle.l1_cache.specs.Accesses.{ReadsBy}
 use Rattle.l1_cache.specs.Lines.{Change, Line, Lines, change_of, leaving, line_in}
-use Rattle.core_bytes.specs.Deeds.{Act, ActsSo, Deed, DoesAll, Draining, Kept, Reading, Writing, entries_in}
+use Rattle.core_bytes.specs.Deeds.{Act, ActsSo, Deed, DoesAll, Draining, CacheWithPolicy, Reading, Writing, entries_in}
 use Rattle.core_bytes.specs.OwnBytes.{own_byte, writes, written}
 use Rattle.core_bytes.proofs.CarriedBytes.{carries_run, change_byte, changes_append, changes_byte, run_append, write_byte}
 use Rattle.core_bytes.proofs.OtherCores.{load_same}
@@ -54,9 +54,9 @@ written_small (Writing address size value) b x small =
 written_small Draining b x small = small
 
 -- deeds at whose end nothing waits leave a byte carried out
-pub deeds_waiting : {E : Type 0} (evicts : E → ℕ → ℕ → ℕ → ℕ → E → Type 0) (b port : ℕ) (deeds : List Deed) (k k' : Kept E) (x y : ℕ)
+pub deeds_waiting : {E : Type 0} (evicts : E → ℕ → ℕ → ℕ → ℕ → E → Type 0) (b port : ℕ) (deeds : List Deed) (k k' : CacheWithPolicy E) (x y : ℕ)
     → DoesAll evicts port deeds k k' → x < 256 → x ≡ changes_byte b k.lines.waiting y → own_byte deeds b x ≡ changes_byte b k'.lines.waiting (run_byte b (entries_in deeds) y)
-deeds_waiting evicts b port [] k k' x y does small is = is ∙ ap (λ (l : Kept _). changes_byte b l.lines.waiting y) (sym does)
+deeds_waiting evicts b port [] k k' x y does small is = is ∙ ap (λ (l : CacheWithPolicy _). changes_byte b l.lines.waiting y) (sym does)
 deeds_waiting evicts b port (d ∷ deeds) k k' x y does small is =
     deeds_waiting evicts b port deeds does.0 k' (written d.act b x) (run_byte b d.entries y) does.2 (written_small d.act b x small) (act_waiting evicts b port d.act d.entries k.lines k.policy does.0.lines does.0.policy x y does.1 small is)
     ∙ ap (changes_byte b k'.lines.waiting) (sym (run_append b d.entries (entries_in deeds) y))

@@ -8,7 +8,7 @@ use Rattle.l1_cache.specs.Accesses.{loads_from}
 use Rattle.l1_cache.specs.Lines.{Line, Lines, change_of, no_lines}
 use Rattle.core_bytes.specs.BusRuns.{BusRun, CoreDid, IsOfCore, places}
 use Rattle.core_bytes.specs.ByteLaws.{gives_oldest}
-use Rattle.core_bytes.specs.Deeds.{Deed, Draining, Kept, Reading, Writing, entries_in}
+use Rattle.core_bytes.specs.Deeds.{Deed, Draining, CacheWithPolicy, Reading, Writing, entries_in}
 use Rattle.core_bytes.specs.OwnBytes.{byte_in, own_byte}
 
 -- one line of zeros
@@ -49,7 +49,7 @@ behind_find = record behind_fill { hits = 1 }
 abbrev behind_drain : Lines
 behind_drain = record behind_find { waiting = [] }
 
-abbrev with_lines : Lines → Kept (Unit {0})
+abbrev with_lines : Lines → CacheWithPolicy (Unit {0})
 with_lines lines = record { lines = lines; policy = tt }
 
 pub waits_then_drains_did : CoreDid gives_oldest 1 1 8 tt 1 waits_then_drains

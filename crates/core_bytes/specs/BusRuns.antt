@@ -3,11 +3,11 @@ use Rattle.std.specs.Prelude.{◌≡◌, ℕ, zero, suc, ◌+◌, ◌<◌, ◌�
 use Rattle.memory_banks.specs.declared.entry.BusEntry.{BusEntry}
 use Rattle.memory_banks.specs.Entries.{IsLegal, entries_of}
 use Rattle.l1_cache.specs.Lines.{no_lines}
-use Rattle.core_bytes.specs.Deeds.{Act, Deed, Draining, DoesAll, Kept, Reading, Writing, entries_in}
+use Rattle.core_bytes.specs.Deeds.{Act, Deed, Draining, DoesAll, CacheWithPolicy, Reading, Writing, entries_in}
 
 -- what a core did, from an empty cache on, with a policy that begins so; at the end nothing waits
 pub record CoreDid {E : Type 0} (evicts : E → ℕ → ℕ → ℕ → ℕ → E → Type 0) (sets ways room : ℕ) (policy : E) (port : ℕ) (deeds : List Deed) : Type 0 where
-  pub last : Kept E
+  pub last : CacheWithPolicy E
   pub does : DoesAll evicts port deeds (record { lines = no_lines sets ways room; policy = policy }) last
   pub none_waits : last.lines.waiting ≡ []
 

@@ -32,14 +32,14 @@ ActsSo evicts port (Writing address size value) entries lines policy lines' poli
 ActsSo evicts port Draining entries lines policy lines' policy' = Drains port lines entries lines' × (policy' ≡ policy)
 
 -- a cache with its policy
-pub record Kept (E : Type 0) : Type 0 where
+pub record CacheWithPolicy (E : Type 0) : Type 0 where
   pub lines : Lines
   pub policy : E
 
-abbrev pub Does : {E : Type 0} → (E → ℕ → ℕ → ℕ → ℕ → E → Type 0) → ℕ → Deed → Kept E → Kept E → Type 0
+abbrev pub Does : {E : Type 0} → (E → ℕ → ℕ → ℕ → ℕ → E → Type 0) → ℕ → Deed → CacheWithPolicy E → CacheWithPolicy E → Type 0
 Does evicts port d k k' = ActsSo evicts port d.act d.entries k.lines k.policy k'.lines k'.policy
 
 -- deeds in order
-abbrev pub DoesAll : {E : Type 0} → (E → ℕ → ℕ → ℕ → ℕ → E → Type 0) → ℕ → List Deed → Kept E → Kept E → Type 0
+abbrev pub DoesAll : {E : Type 0} → (E → ℕ → ℕ → ℕ → ℕ → E → Type 0) → ℕ → List Deed → CacheWithPolicy E → CacheWithPolicy E → Type 0
 DoesAll evicts port [] k k' = k' ≡ k
-DoesAll {E} evicts port (d ∷ deeds) k k' = (between : Kept E) × Does evicts port d k between × DoesAll evicts port deeds between k'
+DoesAll {E} evicts port (d ∷ deeds) k k' = (between : CacheWithPolicy E) × Does evicts port d k between × DoesAll evicts port deeds between k'

@@ -3,10 +3,10 @@ use Rattle.std.specs.Prelude.{◌≡◌, ℕ, List}
 use Rattle.memory_banks.specs.declared.entry.BusEntry.{BusEntry}
 use Rattle.memory_banks.specs.Buses.{MakesAll}
 use Rattle.vx_core.specs.Places.{Reach, with_entries}
-use Rattle.core_bytes.specs.Deeds.{Deed, DoesAll, Kept, entries_in}
+use Rattle.core_bytes.specs.Deeds.{Deed, DoesAll, CacheWithPolicy, entries_in}
 
 -- its cache with the policy
-abbrev pub kept_in : {B E : Type 0} → Reach B E → Kept E
+abbrev pub kept_in : {B E : Type 0} → Reach B E → CacheWithPolicy E
 kept_in p = record { lines = p.lines; policy = p.policy }
 
 -- The deeds lead from one to another: their entries are made on the bus and counted, and they are done by the cache.

@@ -10,7 +10,7 @@ use Rattle.atomic_table.specs.Table.{State, Me, keeps, Allows, Splits, Joins, Fi
 use Rattle.atomic_table.proofs.Lists.{at_set, at_snoc, set_else}
 use Rattle.group_dispenser.specs.declared.rule.Share.{Share}
 use Rattle.group_dispenser.specs.Tickets.{AreDrawn, AreBelow, past, first_of, rest_of}
-use Rattle.group_dispenser.specs.Rule.{Kept, Draws, share, parts, total, weight, maker_left, newcomer, both, nothing}
+use Rattle.group_dispenser.specs.Rule.{DispenserHolds, Draws, share, parts, total, weight, maker_left, newcomer, both, nothing}
 use Rattle.group_dispenser.proofs.Totals.{total_set, total_snoc, total_le, alone}
 use Rattle.group_dispenser.proofs.TicketLaws.{AreDrawn-wider, AreDrawn-nil, all_drawn, first_below, few_past, longer_weight, no_list, range_weight, range_past, AreBelow-range}
 
@@ -18,7 +18,7 @@ abbrev pub Drawers : Type 0
 Drawers = State (Unit {0}) Share
 
 -- the word is at most nine past the group count
-pub next_few : (groups : ℕ) (s : Drawers) → (k : Kept groups s) → k.next ≤ groups + 9
+pub next_few : (groups : ℕ) (s : Drawers) → (k : DispenserHolds groups s) → k.next ≤ groups + 9
 next_few groups s k =
     let range = range_past groups 0 k.next in
     let counted : total (λ v. past groups (concat v.lists)) s.views ≡ past groups (range_with_len 0 k.next) = k.once (λ t. cond (leb groups t) 1 0) in
@@ -38,8 +38,8 @@ longer_length (xs ∷ xss) live n = refl
 wider : (groups n : ℕ) (xss : List (List ℕ)) → All (AreDrawn groups n) xss → All (AreDrawn groups (n + 1)) xss
 wider groups n xss all k d within = AreDrawn-wider groups n (get_or xss k d) (all k d within)
 
-draws_keeps : (groups id : ℕ) (s : Drawers) (v : Share) → past groups (first_of v.lists) ≡ 0 → 0 < length v.lists → (k : Kept groups s) → get_elem? s.views id ≡ some v
-    → (ws : List ℕ) → ws ≡ (k.next + 1) ∷ [] → Kept groups record { words = ws; homes = s.homes; views = set s.views id (longer k.next v) }
+draws_keeps : (groups id : ℕ) (s : Drawers) (v : Share) → past groups (first_of v.lists) ≡ 0 → 0 < length v.lists → (k : DispenserHolds groups s) → get_elem? s.views id ≡ some v
+    → (ws : List ℕ) → ws ≡ (k.next + 1) ∷ [] → DispenserHolds groups record { words = ws; homes = s.homes; views = set s.views id (longer k.next v) }
 draws_keeps groups id s v none live k at ws is =
     let n : ℕ = k.next in
     let w : Share = longer n v in
@@ -65,7 +65,7 @@ draws_keeps groups id s v none live k at ws is =
     }
 
 pub draws : (groups slots id : ℕ) (me : Me (Unit {0}) Share) → past groups (first_of me.0.lists) ≡ 0 → 0 < length me.0.lists
-    → Allows (Kept groups) slots id me 0 (λ n. (n + 1) % 2 ^ 64) (λ ticket after. Draws me.0 ticket after.0 × (after.1 ≡ me.1))
+    → Allows (DispenserHolds groups) slots id me 0 (λ n. (n + 1) % 2 ^ 64) (λ ticket after. Draws me.0 ticket after.0 × (after.1 ≡ me.1))
 draws groups slots id me none live s k count at small =
     let v : Share = me.0 in
     let n : ℕ = k.next in
@@ -82,7 +82,7 @@ draws groups slots id me none live s k count at small =
       (subst (λ (x : ℕ). Draws v x (longer n v)) (sym found) (record { spare = refl; lists = refl; above = first_below groups n v.lists (k.each id v at) }), refl),
     )
 
-pub makes : (groups id : ℕ) (v : Share) → 0 < v.spare → Splits (Kept groups) id v (maker_left v) newcomer
+pub makes : (groups id : ℕ) (v : Share) → 0 < v.spare → Splits (DispenserHolds groups) id v (maker_left v) newcomer
 makes groups id v able s k at =
     let n : ℕ = k.next in
     let left : Share = maker_left v in
@@ -109,7 +109,7 @@ makes groups id v able s k at =
           (at_snoc (set s.views id left) newcomer u j there);
     }
 
-pub takes : (groups id : ℕ) (v : Share) (other : ℕ) (w : Share) → Joins (Kept groups) id v other w (both v w) nothing
+pub takes : (groups id : ℕ) (v : Share) (other : ℕ) (w : Share) → Joins (DispenserHolds groups) id v other w (both v w) nothing
 takes groups id v other w s k at apart there =
     let n : ℕ = k.next in
     let b : Share = both v w in
@@ -140,17 +140,17 @@ takes groups id v other w s k at apart there =
     }
 
 -- who has all parts has all tickets
-pub settles : (groups id : ℕ) (v : Share) (s : Drawers) → (k : Kept groups s) → get_elem? s.views id ≡ some v → parts v ≡ 9
+pub settles : (groups id : ℕ) (v : Share) (s : Drawers) → (k : DispenserHolds groups s) → get_elem? s.views id ≡ some v → parts v ≡ 9
     → (h : ℕ → ℕ) → sum_by h (concat v.lists) ≡ sum_by h (range_with_len 0 k.next)
 settles groups id v s k at all h =
     sym (alone (weight h) (λ u none. no_list h u.lists (omega arith)) s.views id v at (k.nine ∙ sym all)) ∙ k.once h
 
 -- what the last word is, where one has all parts
-pub closes : (groups id : ℕ) (v : Share) (ws : List ℕ) (xs : List (Unit {0})) → Final (Seen (Kept groups) id v) ws xs → (r : ℕ) → get_elem? ws 0 ≡ some r → parts v ≡ 9
+pub closes : (groups id : ℕ) (v : Share) (ws : List ℕ) (xs : List (Unit {0})) → Final (Seen (DispenserHolds groups) id v) ws xs → (r : ℕ) → get_elem? ws 0 ≡ some r → parts v ≡ 9
     → AreBelow r (concat v.lists) × (r ≤ groups + 9) × (r ≤ 65545)
 closes groups id v ws xs f r there all =
     let s : Drawers = f.0 in
-    let k : Kept groups s = f.1.0 in
+    let k : DispenserHolds groups s = f.1.0 in
     let n : ℕ = k.next in
     let same : n ≡ r = some-injective n r (ap (λ (zs : List ℕ). get_elem? zs 0) (sym k.word ∙ f.2) ∙ there) in
     let few = next_few groups s k in

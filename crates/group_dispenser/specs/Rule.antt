@@ -24,7 +24,7 @@ weight h v = sum_by h (concat v.lists)
 
 -- The word is the next ticket. There are at most nine claimers in all, each of which has drawn at most one ticket that
 -- stands for no group; and the tickets that were drawn are the numbers below the word, each once, however they are weighed
-pub record Kept (groups : ℕ) (s : State (Unit {0}) Share) : Type 0 where
+pub record DispenserHolds (groups : ℕ) (s : State (Unit {0}) Share) : Type 0 where
   pub next : ℕ
   pub word : s.words ≡ next ∷ []
   pub few : groups ≤ 65536

@@ -14,10 +14,10 @@ pub struct Share {
 pub struct Tickets;
 
 impl TableRule<(), Share, u32> for Tickets {
-    ghost use Rattle.group_dispenser.specs.Rule.{Kept, share};
+    ghost use Rattle.group_dispenser.specs.Rule.{DispenserHolds, share};
     ghost use Rattle.std.specs.Prelude.{[], ◌∷◌};
 
-    ghost holds = { λ groups state. Kept groups state };
+    ghost holds = { λ groups state. DispenserHolds groups state };
 
     ghost first = { λ groups. share 8 ([] ∷ []) };
 }

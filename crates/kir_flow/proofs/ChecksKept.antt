@@ -19,21 +19,21 @@ abbrev pub Within : List Known → List Known → Type 0
 Within ks ks' = (array : ArrayRef) (a : Operand) → IsKnown array a ks → IsKnown array a ks'
 
 -- what is known once a variable is set does not read it
-pub record Kept (d : ℕ) (ks : List Known) (array : ArrayRef) (a : Operand) : Type 0 where
+pub record StillKnown (d : ℕ) (ks : List Known) (array : ArrayRef) (a : Operand) : Type 0 where
   pub known : IsKnown array a ks
   pub unread : reads d a ≡ false
 
-more_kept : (d : ℕ) (k : Known) (ks : List Known) (array : ArrayRef) (a : Operand) → Kept d ks array a → Kept d (k ∷ ks) array a
+more_kept : (d : ℕ) (k : Known) (ks : List Known) (array : ArrayRef) (a : Operand) → StillKnown d ks array a → StillKnown d (k ∷ ks) array a
 more_kept d k ks array a kept = record { known = inr kept.known; unread = kept.unread }
 
 not_true : (b : Bool) → not b ≡ true → b ≡ false
 not_true true e = absurd (true≢false (sym e))
 not_true false e = refl
 
-pub kept_of : (d : ℕ) (ks : List Known) (array : ArrayRef) (a : Operand) → IsKnown array a (forgotten d ks) → Kept d ks array a
+pub kept_of : (d : ℕ) (ks : List Known) (array : ArrayRef) (a : Operand) → IsKnown array a (forgotten d ks) → StillKnown d ks array a
 kept_of d [] array a = λ known. absurd known
 kept_of d (k ∷ ks) array a =
-    cond_both (not (reads d k.index)) (k ∷ forgotten d ks) (forgotten d ks) (λ xs. IsKnown array a xs → Kept d (k ∷ ks) array a)
+    cond_both (not (reads d k.index)) (k ∷ forgotten d ks) (forgotten d ks) (λ xs. IsKnown array a xs → StillKnown d (k ∷ ks) array a)
     (λ e known. elim known [
       | inl same ↦ record { known = inl same; unread = ap (λ (x : Known). reads d x.index) (sym same) ∙ not_true (reads d k.index) e }
       | inr later ↦ more_kept d k ks array a (kept_of d ks array a later)
@@ -54,7 +54,7 @@ kept_to d (k ∷ ks) array a known unread =
     ])
 
 forgotten_within : (d : ℕ) (ks ks' : List Known) → Within ks ks' → Within (forgotten d ks) (forgotten d ks')
-forgotten_within d ks ks' within array a known = let kept : Kept d ks array a = kept_of d ks array a known in kept_to d ks' array a (within array a kept.known) kept.unread
+forgotten_within d ks ks' within array a known = let kept : StillKnown d ks array a = kept_of d ks array a known in kept_to d ks' array a (within array a kept.known) kept.unread
 
 behind_within : (op : Op) (ks ks' : List Known) → Within ks ks' → Within (known_behind op ks) (known_behind op ks')
 behind_within (Set d a) ks ks' within = forgotten_within d ks ks' within

@@ -4,11 +4,11 @@ use Rattle.std.proofs.lemmas.List.{drop_all}
 use Rattle.std.proofs.lemmas.List.Elements.{filter-append}
 use Rattle.ocl_lex.specs.declared.pieces.Front.{Front}
 use Rattle.ocl_lex.specs.declared.pieces.Piece.{Piece}
-use Rattle.ocl_lex.specs.declared.pieces.Place.{Place}
+use Rattle.ocl_lex.specs.declared.pieces.Cursor.{Cursor}
 use Rattle.ocl_lex.specs.Pieces.{after, begins, cuts, is_shown, piece_at, shown_pieces}
 use Rattle.ocl_lex.specs.Cutting.{Passes}
 
-pub passes_covered : (covered : ℕ) (p : Place) (bytes : List ℕ) (before : List Piece) → 0 < covered → 0 < length bytes
+pub passes_covered : (covered : ℕ) (p : Cursor) (bytes : List ℕ) (before : List Piece) → 0 < covered → 0 < length bytes
     → Passes covered p bytes before (covered - 1) before
 unfolding cuts
 passes_covered zero p bytes before some more = absurd (omega arith)
@@ -17,12 +17,12 @@ passes_covered (suc covered) p (c ∷ rest) before some more =
     let same : covered ≡ suc covered - 1 = omega arith in
     ap (λ k. before ++ shown_pieces (cuts k (after c p) rest)) same
 
-begins_one : (p : Place) (c : ℕ) (rest : List ℕ)
+begins_one : (p : Cursor) (c : ℕ) (rest : List ℕ)
     → cuts 0 p (c ∷ rest) ≡ piece_at p (begins (c ∷ rest)) ∷ cuts ((begins (c ∷ rest)).len - 1) (after c p) rest
 unfolding cuts
 begins_one p c rest = refl
 
-pub passes_begins : (covered : ℕ) (p : Place) (bytes : List ℕ) (before : List Piece) (f : Front) (left : ℕ) (now : List Piece) → covered ≤ 0 → 0 < length bytes
+pub passes_begins : (covered : ℕ) (p : Cursor) (bytes : List ℕ) (before : List Piece) (f : Front) (left : ℕ) (now : List Piece) → covered ≤ 0 → 0 < length bytes
     → f ≡ begins bytes → now ≡ before ++ shown_pieces (piece_at p f ∷ []) → left ≡ f.len - 1 → Passes covered p bytes before left now
 passes_begins covered p [] before f left now none more front adds len = absurd (omega arith)
 passes_begins covered p (c ∷ rest) before f left now none more front adds len =
@@ -39,12 +39,12 @@ passes_begins covered p (c ∷ rest) before f left now none more front adds len 
     ∙ append_assoc before (shown_pieces (piece_at p f ∷ [])) (shown_pieces (cuts (f.len - 1) (after c p) rest)) in
     four ∙ three ∙ sym five
 
-pub none_left : (covered : ℕ) (p : Place) → cuts covered p [] ≡ []
+pub none_left : (covered : ℕ) (p : Cursor) → cuts covered p [] ≡ []
 unfolding cuts
 none_left zero p = refl
 none_left (suc covered) p = refl
 
-pub passes_end : (text : List ℕ) (i : ℕ) (total now : List Piece) (covered : ℕ) (p : Place) → length text ≤ i
+pub passes_end : (text : List ℕ) (i : ℕ) (total now : List Piece) (covered : ℕ) (p : Cursor) → length text ≤ i
     → total ≡ now ++ shown_pieces (cuts covered p (drop i text)) → now ≡ total
 passes_end text i total now covered p past so_far =
     let none : drop i text ≡ [] = drop_all i text past in

@@ -8,23 +8,23 @@ use Rattle.ocl_lex.specs.declared.faults.LexFault.{LexFault}
 use Rattle.ocl_lex.specs.declared.faults.LexFault.TheVariants as fault
 use Rattle.ocl_lex.specs.declared.pieces.Piece.{Piece}
 use Rattle.ocl_lex.specs.declared.output.Output.{Output}
-use Rattle.ocl_lex.specs.declared.pieces.Place.{Place}
+use Rattle.ocl_lex.specs.declared.pieces.Cursor.{Cursor}
 use Rattle.ocl_lex.specs.Events.{Event, within, with_front}
 use Rattle.ocl_lex.specs.Lines.{State, end_token, ends, events, first_state, limit, lines, place_behind, tokens_of}
 use Rattle.ocl_lex.specs.Pieces.{IsNear, after, first_place, pieces_of}
 use Rattle.ocl_lex.specs.Telling.{answer}
 
 -- a place on the way to the end
-pub record GoesTo (text : List ℕ) (i : ℕ) (place : Place) : Type 0 where
+pub record GoesTo (text : List ℕ) (i : ℕ) (place : Cursor) : Type 0 where
   pub still : place_behind place (drop i text) ≡ place_behind first_place text
   pub at : place.at ≡ i
   pub near : IsNear place
 
-pub goes_on : (text : List ℕ) (i : ℕ) (place : Place) → i < length text → place_behind place (drop i text) ≡ place_behind first_place text
+pub goes_on : (text : List ℕ) (i : ℕ) (place : Cursor) → i < length text → place_behind place (drop i text) ≡ place_behind first_place text
     → place_behind (after (slice_index text i) place) (drop (i + 1) text) ≡ place_behind first_place text
 goes_on text i place within still = sym (ap (place_behind place) (drop_more text i 0 within)) ∙ still
 
-pub is_there : (text : List ℕ) (i : ℕ) (place : Place) → length text ≤ i → place_behind place (drop i text) ≡ place_behind first_place text → place ≡ place_behind first_place text
+pub is_there : (text : List ℕ) (i : ℕ) (place : Cursor) → length text ≤ i → place_behind place (drop i text) ≡ place_behind first_place text → place ≡ place_behind first_place text
 is_there text i place past still = sym (ap (place_behind place) (drop_all i text past)) ∙ still
 
 no_front : (r : Result (List Token) LexFault) → with_front [] r ≡ r

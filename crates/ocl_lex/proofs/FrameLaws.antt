@@ -8,20 +8,20 @@ use Rattle.indexmap.specs.IndexMap.{insert_entry, set_value_at}
 use Rattle.std.proofs.lemmas.List.{length-append}
 use Rattle.std.proofs.Math.Seq.{take-append_seam}
 use Rattle.std.proofs.lemmas.Slice.Eq.{bytes_eq-Decides}
-use Rattle.ocl_lex.specs.declared.parts.Part.{Part}
+use Rattle.ocl_lex.specs.declared.parts.Lexeme.{Lexeme}
 use Rattle.ocl_lex.specs.declared.pieces.Piece.{Piece}
 use Rattle.ocl_lex.specs.Events.{Event}
 use Rattle.ocl_lex.specs.Frames.{Frames, inner_events, is_open, pending, seen}
-use Rattle.ocl_lex.specs.declared.parts.Part.TheVariants as part
+use Rattle.ocl_lex.specs.declared.parts.Lexeme.TheVariants as part
 use Rattle.ocl_lex.specs.Macros.{Macros, found, replaced, replacement_of, without}
 use Rattle.ocl_lex.specs.Parts.{between, name_of}
 use Rattle.ocl_lex.proofs.TableLaws.{by_test}
 
-pub seen_push : (macros : Macros) (frames : Frames) (f : Bor (List ℕ) × Bor (List Part)) → seen macros (frames ++ f ∷ []) ≡ without f.0.now (seen macros frames)
+pub seen_push : (macros : Macros) (frames : Frames) (f : Bor (List ℕ) × Bor (List Lexeme)) → seen macros (frames ++ f ∷ []) ≡ without f.0.now (seen macros frames)
 seen_push macros [] f = refl
 seen_push macros (g ∷ frames) f = seen_push (without g.0.now macros) frames f
 
-pub pending_push : (text : List ℕ) (at : Piece) (macros : Macros) (frames : Frames) (f : Bor (List ℕ) × Bor (List Part))
+pub pending_push : (text : List ℕ) (at : Piece) (macros : Macros) (frames : Frames) (f : Bor (List ℕ) × Bor (List Lexeme))
     → pending text at macros (frames ++ f ∷ []) ≡ inner_events text at (without f.0.now (seen macros frames)) f.1.now ++ pending text at macros frames
 pending_push text at macros [] f = sym (append-nil (inner_events text at (without f.0.now macros) f.1.now))
 pending_push text at macros (g ∷ frames) f =
@@ -74,18 +74,18 @@ seen_open name macros (f ∷ frames) open_there = by_test (bytes_eq name f.0.now
     (λ t. seen_open name (without f.0.now macros) frames (rw t at open_there))
 
 -- the same of a part that is a name
-pub found_named : (text : List ℕ) (macros : Macros) (p : Part) (start end : ℕ) (name : List ℕ) → p ≡ part.Name start end → name ≡ between text start end
+pub found_named : (text : List ℕ) (macros : Macros) (p : Lexeme) (start end : ℕ) (name : List ℕ) → p ≡ part.Name start end → name ≡ between text start end
     → found text macros p ≡ replacement_of name macros
 found_named text macros p start end name is spelled = ap (found text macros) is ∙ ap (λ n. replacement_of n macros) (sym spelled)
 
-pub named_by : (text : List ℕ) (p : Part) (start end : ℕ) (name : List ℕ) → p ≡ part.Name start end → name ≡ between text start end → name ≡ name_of text p
+pub named_by : (text : List ℕ) (p : Lexeme) (start end : ℕ) (name : List ℕ) → p ≡ part.Name start end → name ≡ between text start end → name ≡ name_of text p
 named_by text p start end name is spelled = spelled ∙ sym (ap (name_of text) is)
 
-pub found_open : (text : List ℕ) (macros : Macros) (frames : Frames) (p : Part) (start end : ℕ) (name : List ℕ) → p ≡ part.Name start end
+pub found_open : (text : List ℕ) (macros : Macros) (frames : Frames) (p : Lexeme) (start end : ℕ) (name : List ℕ) → p ≡ part.Name start end
     → name ≡ between text start end → is_open name frames ≡ true → found text (seen macros frames) p ≡ None
 found_open text macros frames p start end name is spelled there = found_named text (seen macros frames) p start end name is spelled ∙ seen_open name macros frames there
 
-pub found_closed : (text : List ℕ) (macros : Macros) (frames : Frames) (p : Part) (start end : ℕ) (name : List ℕ) → p ≡ part.Name start end
+pub found_closed : (text : List ℕ) (macros : Macros) (frames : Frames) (p : Lexeme) (start end : ℕ) (name : List ℕ) → p ≡ part.Name start end
     → name ≡ between text start end → is_open name frames ≡ false → found text (seen macros frames) p ≡ replacement_of name macros
 found_closed text macros frames p start end name is spelled closed = found_named text (seen macros frames) p start end name is spelled ∙ seen_closed name macros frames closed
 
@@ -93,7 +93,7 @@ abbrev pub same_frame : Bor (List ℕ) → Bor (List ℕ) → Bool
 same_frame x y = bytes_eq x.now y.now
 
 -- a replacement that is not open yet is opened inside the others
-pub opened_at_end : (name : Bor (List ℕ)) (body : Bor (List Part)) (frames : Frames) → is_open name.now frames ≡ false
+pub opened_at_end : (name : Bor (List ℕ)) (body : Bor (List Lexeme)) (frames : Frames) → is_open name.now frames ≡ false
     → insert_entry same_frame frames name body ≡ frames ++ (name, body) ∷ []
 opened_at_end name body [] closed = refl
 opened_at_end name body (f ∷ frames) closed = by_test (bytes_eq name.now f.0.now)
@@ -105,7 +105,7 @@ empty [] h = refl
 empty (x ∷ xs) h = absurd (omega arith)
 
 -- the innermost replacement is at its end
-pub pending_close : (text : List ℕ) (at : Piece) (macros : Macros) (old frames : Frames) (f : Bor (List ℕ) × Bor (List Part)) → old ≡ frames ++ f ∷ []
+pub pending_close : (text : List ℕ) (at : Piece) (macros : Macros) (old frames : Frames) (f : Bor (List ℕ) × Bor (List Lexeme)) → old ≡ frames ++ f ∷ []
     → length f.1.now ≡ 0 → pending text at macros old ≡ pending text at macros frames
 pending_close text at macros old frames f split none =
     let last : f.1.now ≡ [] = empty f.1.now none in
@@ -113,7 +113,7 @@ pending_close text at macros old frames f split none =
     ∙ ap (λ l. inner_events text at (without f.0.now (seen macros frames)) l ++ pending text at macros frames) last
 
 -- the innermost replacement goes on by a part
-pub pending_part : (text : List ℕ) (at : Piece) (macros : Macros) (old frames opened : Frames) (name : Bor (List ℕ)) (parts rest : Bor (List Part)) (p : Part)
+pub pending_part : (text : List ℕ) (at : Piece) (macros : Macros) (old frames opened : Frames) (name : Bor (List ℕ)) (parts rest : Bor (List Lexeme)) (p : Lexeme)
     → old ≡ frames ++ (name, parts) ∷ [] → parts.now ≡ p ∷ rest.now → opened ≡ frames ++ (name, rest) ∷ []
     → pending text at macros old ≡ replaced text (seen macros opened) true at p ++ pending text at macros opened
 pending_part text at macros old frames opened name parts rest p split first pushed =
@@ -139,24 +139,24 @@ same_front xs ys x y e =
     let len : length xs ≡ length ys = omega (arith, ap length e) in
     sym (take-append_seam xs (x ∷ [])) ∙ ap (take (length xs)) e ∙ ap (λ n. take n (ys ++ y ∷ [])) len ∙ take-append_seam ys (y ∷ [])
 
-pub closes_last : (old new outer : Frames) (f : Bor (List ℕ) × Bor (List Part)) (popped : Option (Bor (List ℕ) × Bor (List Part)))
+pub closes_last : (old new outer : Frames) (f : Bor (List ℕ) × Bor (List Lexeme)) (popped : Option (Bor (List ℕ) × Bor (List Lexeme)))
     → old ≡ outer ++ f ∷ [] → old ≡ new ++ option_to_list popped → length new + (if is_some popped then 1 else 0) ≡ length old → (0 < length old → is_some popped ≡ true) → outer ≡ new
 closes_last old new outer f (Some g) split pops len found = same_front outer new f g (sym split ∙ pops)
 closes_last old new outer f None split pops len found =
     let more : 0 < length old = omega (arith, ap length split, length-append outer (f ∷ [])) in
     absurd (true≢false (sym (found more)))
 
-set_at_end : (outer : Frames) (name : Bor (List ℕ)) (parts rest : Bor (List Part)) → set_value_at (outer ++ (name, parts) ∷ []) (length outer) rest ≡ outer ++ (name, rest) ∷ []
+set_at_end : (outer : Frames) (name : Bor (List ℕ)) (parts rest : Bor (List Lexeme)) → set_value_at (outer ++ (name, parts) ∷ []) (length outer) rest ≡ outer ++ (name, rest) ∷ []
 set_at_end [] name parts rest = refl
 set_at_end (f ∷ outer) name parts rest = ap (λ l. f ∷ l) (set_at_end outer name parts rest)
 
-pub left_at_end : (old outer : Frames) (name : Bor (List ℕ)) (parts rest : Bor (List Part)) → old ≡ outer ++ (name, parts) ∷ []
+pub left_at_end : (old outer : Frames) (name : Bor (List ℕ)) (parts rest : Bor (List Lexeme)) → old ≡ outer ++ (name, parts) ∷ []
     → set_value_at old (length old - 1) rest ≡ outer ++ (name, rest) ∷ []
 left_at_end old outer name parts rest split =
     let len : length old - 1 ≡ length outer = omega (arith, ap length split, length-append outer ((name, parts) ∷ [])) in
     ap (λ n. set_value_at old n rest) len ∙ ap (λ l. set_value_at l (length outer) rest) split ∙ set_at_end outer name parts rest
 
-pub last_of : (frames : Frames) (name : Bor (List ℕ)) (parts : Bor (List Part)) → Some (name, parts) ≡ slice_get frames (length frames - 1)
+pub last_of : (frames : Frames) (name : Bor (List ℕ)) (parts : Bor (List Lexeme)) → Some (name, parts) ≡ slice_get frames (length frames - 1)
     → (outer : Frames) × (n : Bor (List ℕ)) × (frames ≡ outer ++ (n, parts) ∷ [])
 last_of [] name parts h = cc
 last_of (f ∷ []) name parts h =

@@ -11,7 +11,7 @@ use Rattle.ocl_lex.specs.declared.pieces.Front.{Front}
 use Rattle.ocl_lex.specs.declared.pieces.Piece.{Piece}
 use Rattle.ocl_lex.specs.declared.pieces.PieceKind.{PieceKind}
 use Rattle.ocl_lex.specs.declared.pieces.PieceKind.TheVariants as kind
-use Rattle.ocl_lex.specs.declared.pieces.Place.{Place}
+use Rattle.ocl_lex.specs.declared.pieces.Cursor.{Cursor}
 use Rattle.ocl_lex.specs.Bytes.{is_feed, is_in_line, is_in_name, is_in_number}
 use Rattle.ocl_lex.specs.Lines.{place_behind}
 use Rattle.ocl_lex.specs.Marks.{all_marks, mark_at, spelling_of}
@@ -113,14 +113,14 @@ pub earlier : (text : List ℕ) (j k : ℕ) (pieces : List Piece) → j ≤ k �
 earlier text j k [] less h = tt
 earlier text j k (p ∷ pieces) less (placed, behind, rest) = (placed, omega arith, rest)
 
-place_behind_more : (p : Place) (xs : List ℕ) (c : ℕ) → place_behind p (xs ++ c ∷ []) ≡ after c (place_behind p xs)
+place_behind_more : (p : Cursor) (xs : List ℕ) (c : ℕ) → place_behind p (xs ++ c ∷ []) ≡ after c (place_behind p xs)
 place_behind_more p [] c = refl
 place_behind_more p (x ∷ xs) c = place_behind_more (after x p) xs c
 
-after_at : (c : ℕ) (p : Place) → (after c p).at ≡ p.at + 1
+after_at : (c : ℕ) (p : Cursor) → (after c p).at ≡ p.at + 1
 after_at c p = by_test (is_feed c) (λ t. rw t refl) (λ t. rw t refl)
 
-first_placed : (text before rest : List ℕ) (place : Place) → text ≡ before ++ rest → 0 < length rest → place ≡ place_behind first_place before → place.at ≡ length before
+first_placed : (text before rest : List ℕ) (place : Cursor) → text ≡ before ++ rest → 0 < length rest → place ≡ place_behind first_place before → place.at ≡ length before
     → IsPlaced text (piece_at place (begins rest))
 first_placed text before rest place split some here at =
     let fits : Fits rest (begins rest) = begins_fits rest some in
@@ -135,7 +135,7 @@ first_placed text before rest place split some here at =
       spelled = λ m e. sym ((fits.mark m e).1) ∙ ap (λ l. take (begins rest).len l) (sym back_part) ∙ ap (λ n. take n (drop place.at text)) (sym short);
     }
 
-cuts_placed : (text before rest : List ℕ) (covered : ℕ) (place : Place) → text ≡ before ++ rest → place ≡ place_behind first_place before → place.at ≡ length before
+cuts_placed : (text before rest : List ℕ) (covered : ℕ) (place : Cursor) → text ≡ before ++ rest → place ≡ place_behind first_place before → place.at ≡ length before
     → Placed text (place.at + covered) (cuts covered place rest)
 unfolding cuts
 cuts_placed text before [] covered place split here at = subst (λ l. Placed text (place.at + covered) l) (sym (none_left covered place)) tt

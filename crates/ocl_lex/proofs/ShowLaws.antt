@@ -6,7 +6,7 @@ use Rattle.std.proofs.lemmas.List.{drop_more, drop_all}
 use Rattle.ocl_lex.specs.declared.faults.LexFault.{LexFault}
 use Rattle.ocl_lex.specs.declared.faults.LexFault.TheVariants as fault
 use Rattle.ocl_lex.specs.declared.output.Output.{Output}
-use Rattle.ocl_lex.specs.declared.parts.Part.{Part}
+use Rattle.ocl_lex.specs.declared.parts.Lexeme.{Lexeme}
 use Rattle.ocl_lex.specs.declared.pieces.Piece.{Piece}
 use Rattle.ocl_lex.specs.Events.{Event, Show, Use}
 use Rattle.ocl_lex.specs.Frames.{inner_events}
@@ -29,18 +29,18 @@ tells_then (Err f) old middle new first rest so_far (inl memory) = inl memory
 tells_then (Err f) old middle new first rest so_far (inr stops) = inr (λ more. ap (answer old) (append_assoc first rest more) ∙ sym (so_far (rest ++ more)) ∙ stops more)
 
 -- a part that uses a macro, and one that does not
-pub tells_used : {T : Type 0} (r : Result T LexFault) (text : List ℕ) (macros : Macros) (at : Piece) (old new : Output) (p : Part) (name : List ℕ) (body : List Part)
+pub tells_used : {T : Type 0} (r : Result T LexFault) (text : List ℕ) (macros : Macros) (at : Piece) (old new : Output) (p : Lexeme) (name : List ℕ) (body : List Lexeme)
     → found text macros p ≡ Some body → name ≡ name_of text p → Tells r old new (Use at.pos ∷ inner_events text at (without name macros) body)
     → Tells r old new (replaced text macros false at p)
 tells_used r text macros at old new p name body there named tells =
     tells_same r old new _ _ (replaced_found text macros false at p body there ∙ ap (λ n. Use at.pos ∷ inner_events text at (without n macros) body) (sym named)) tells
 
-pub tells_plain : {T : Type 0} (r : Result T LexFault) (text : List ℕ) (macros : Macros) (at : Piece) (old new : Output) (p : Part)
+pub tells_plain : {T : Type 0} (r : Result T LexFault) (text : List ℕ) (macros : Macros) (at : Piece) (old new : Output) (p : Lexeme)
     → found text macros p ≡ None → Tells r old new (Show (token_at text false at p) ∷ []) → Tells r old new (replaced text macros false at p)
 tells_plain r text macros at old new p none tells = tells_same r old new _ _ (replaced_plain text macros false at p none) tells
 
 -- a piece by its part, or by its fault
-pub tells_part : {T : Type 0} (r : Result T LexFault) (text : List ℕ) (macros : Macros) (piece : Piece) (old new : Output) (p : Part)
+pub tells_part : {T : Type 0} (r : Result T LexFault) (text : List ℕ) (macros : Macros) (piece : Piece) (old new : Output) (p : Lexeme)
     → Ok p ≡ part_of text piece → Tells r old new (replaced text macros false piece p) → Tells r old new (piece_events text macros piece)
 tells_part r text macros piece old new p is tells = tells_same r old new _ _ (ap (part_events text macros piece) (sym is)) tells
 

@@ -8,8 +8,8 @@ use Rattle.ocl_lex.specs.declared.conditions.Condition.{Condition}
 use Rattle.ocl_lex.specs.declared.directives.DirectiveWord.{DirectiveWord}
 use Rattle.ocl_lex.specs.declared.directives.DirectiveWord.TheVariants as word
 use Rattle.ocl_lex.specs.declared.faults.LexFault.{LexFault}
-use Rattle.ocl_lex.specs.declared.parts.Part.{Part}
-use Rattle.ocl_lex.specs.declared.parts.Part.TheVariants as part
+use Rattle.ocl_lex.specs.declared.parts.Lexeme.{Lexeme}
+use Rattle.ocl_lex.specs.declared.parts.Lexeme.TheVariants as part
 use Rattle.ocl_lex.specs.declared.pieces.Piece.{Piece}
 use Rattle.ocl_lex.specs.declared.pieces.PieceKind.{PieceKind}
 use Rattle.ocl_lex.specs.declared.pieces.PieceKind.TheVariants as kind
@@ -74,12 +74,12 @@ name_goes_on : (bytes : List ℕ) (o : Option Word) → is_end (word_or_name o b
 name_goes_on bytes None = refl
 name_goes_on bytes (Some w) = refl
 
-kind_goes_on : (text : List ℕ) (q : Part) → is_end (kind_of text q) ≡ false
+kind_goes_on : (text : List ℕ) (q : Lexeme) → is_end (kind_of text q) ≡ false
 kind_goes_on text (part.Name start end) = name_goes_on (between text start end) (word_named (between text start end))
 kind_goes_on text (part.Number value unsigned) = refl
 kind_goes_on text (part.Mark m) = refl
 
-says_part : (text : List ℕ) (k : PieceKind) (p : Piece) (q : Part) → IsPlaced text p → p.kind ≡ k → part_of_kind text k p ≡ Ok q → Says (between text p.start p.end) (kind_of text q)
+says_part : (text : List ℕ) (k : PieceKind) (p : Piece) (q : Lexeme) → IsPlaced text p → p.kind ≡ k → part_of_kind text k p ≡ Ok q → Says (between text p.start p.end) (kind_of text q)
 says_part text kind.Name p q placed is h =
     let same : part.Name p.start p.end ≡ q = cc in
     subst (λ r. Says (between text p.start p.end) (kind_of text r)) same (says_name (between text p.start p.end) (word_named (between text p.start p.end)) refl)
@@ -98,7 +98,7 @@ says_part text kind.Feed p q placed is h = cc
 says_part text kind.Hash p q placed is h = cc
 says_part text kind.Bad p q placed is h = cc
 
-stands_made : (text : List ℕ) (p : Piece) (q : Part) → IsPlaced text p → Stands text (token_at text true p q)
+stands_made : (text : List ℕ) (p : Piece) (q : Lexeme) → IsPlaced text p → Stands text (token_at text true p q)
 stands_made text p q placed = record {
   ordered = placed.ordered;
   within = placed.within;
@@ -107,7 +107,7 @@ stands_made text p q placed = record {
   goes_on = kind_goes_on text q;
 }
 
-stands_plain : (text : List ℕ) (p : Piece) (q : Part) → IsPlaced text p → part_of text p ≡ Ok q → Stands text (token_at text false p q)
+stands_plain : (text : List ℕ) (p : Piece) (q : Lexeme) → IsPlaced text p → part_of text p ≡ Ok q → Stands text (token_at text false p q)
 stands_plain text p q placed is = record {
   ordered = placed.ordered;
   within = placed.within;
@@ -145,12 +145,12 @@ module _ (text : List ℕ) where
   fine_append from (Use pos ∷ es) fs Q h = fine_append from es fs Q h
   fine_append from (Show t ∷ es) fs Q (stands, after_from, rest) = (stands, after_from, fine_append (behind from t) es fs Q rest)
 
-  fine_parts : (from : ℕ) (g : Part → List Event) → ((q : Part) (Q : ℕ → Type 0) → Q from → Fine from (g q) Q) → (body : List Part) (Q : ℕ → Type 0) → Q from → Fine from (flat_map g body) Q
+  fine_parts : (from : ℕ) (g : Lexeme → List Event) → ((q : Lexeme) (Q : ℕ → Type 0) → Q from → Fine from (g q) Q) → (body : List Lexeme) (Q : ℕ → Type 0) → Q from → Fine from (flat_map g body) Q
   fine_parts from g each [] Q h = h
   fine_parts from g each (q ∷ body) Q h = fine_append from (g q) (flat_map g body) Q (each q (λ k. Fine k (flat_map g body) Q) (fine_parts from g each body Q h))
 
   -- what a macro makes
-  made_fine : (n : ℕ) (macros : Macros) (p : Piece) (from : ℕ) → IsPlaced text p → from ≤ p.start → (q : Part) (Q : ℕ → Type 0) → Q from → Fine from (shows text n macros true p q) Q
+  made_fine : (n : ℕ) (macros : Macros) (p : Piece) (from : ℕ) → IsPlaced text p → from ≤ p.start → (q : Lexeme) (Q : ℕ → Type 0) → Q from → Fine from (shows text n macros true p q) Q
   unfolding shows
   made_fine zero macros p from placed after_from q Q h = (stands_made text p q placed, after_from, h)
   made_fine (suc n) macros p from placed after_from q Q h = by_option (found text macros q)
@@ -221,7 +221,7 @@ module _ (text : List ℕ) where
   only_skipped : (p : Piece) → OnlyStops (skipped_events p)
   only_skipped p = only_if (is_open_comment p.kind) _ [] tt tt
 
-  only_faults : (r : Result Part LexFault) → OnlyStops (faults_in r)
+  only_faults : (r : Result Lexeme LexFault) → OnlyStops (faults_in r)
   only_faults (Ok q) = tt
   only_faults (Err f) = tt
 

@@ -5,7 +5,7 @@ use Rattle.std.specs.Borrow.{Bor}
 use Rattle.ocl_lex.specs.declared.faults.LexFault.{LexFault}
 use Rattle.ocl_lex.specs.declared.faults.LexFault.TheVariants as fault
 use Rattle.ocl_lex.specs.declared.output.Output.{Output}
-use Rattle.ocl_lex.specs.declared.parts.Part.{Part}
+use Rattle.ocl_lex.specs.declared.parts.Lexeme.{Lexeme}
 use Rattle.ocl_lex.specs.declared.pieces.Piece.{Piece}
 use Rattle.ocl_lex.specs.Events.{Event, Show, Use}
 use Rattle.ocl_lex.specs.Frames.{Frames, StepsOn, inner_events, pending, seen}
@@ -27,8 +27,8 @@ on_ok : {T : Type 0} {P Q : Type 0} (r : Result T LexFault) → (P → Q) → On
 on_ok (Ok x) f h = f h
 on_ok (Err e) f h = h
 
-pub steps_open : {T : Type 0} (r : Result T LexFault) (text : List ℕ) (at : Piece) (macros : Macros) (old new : Output) (frames frames_new : Frames) (p : Part)
-    (f : Bor (List ℕ) × Bor (List Part)) → found text (seen macros frames) p ≡ Some f.1.now → f.0.now ≡ name_of text p
+pub steps_open : {T : Type 0} (r : Result T LexFault) (text : List ℕ) (at : Piece) (macros : Macros) (old new : Output) (frames frames_new : Frames) (p : Lexeme)
+    (f : Bor (List ℕ) × Bor (List Lexeme)) → found text (seen macros frames) p ≡ Some f.1.now → f.0.now ≡ name_of text p
     → Tells r old new (Use at.pos ∷ []) → OnOk r (frames_new ≡ frames ++ f ∷ []) → StepsOn r text at macros old frames p new frames_new
 steps_open r text at macros old new frames frames_new p f there named tells pushed =
     let inner : List Event = inner_events text at (without f.0.now (seen macros frames)) f.1.now in
@@ -43,7 +43,7 @@ same_on_ok : {T : Type 0} {A : Type 0} (r : Result T LexFault) (x : A) → OnOk 
 same_on_ok (Ok y) x = refl
 same_on_ok (Err e) x = tt
 
-pub steps_show : {T : Type 0} (r : Result T LexFault) (text : List ℕ) (at : Piece) (macros : Macros) (old new : Output) (frames : Frames) (p : Part)
+pub steps_show : {T : Type 0} (r : Result T LexFault) (text : List ℕ) (at : Piece) (macros : Macros) (old new : Output) (frames : Frames) (p : Lexeme)
     → found text (seen macros frames) p ≡ None → Tells r old new (Show (token_at text true at p) ∷ []) → StepsOn r text at macros old frames p new frames
 steps_show r text at macros old new frames p none tells =
     let one : replaced text (seen macros frames) true at p ++ pending text at macros frames ≡ Show (token_at text true at p) ∷ pending text at macros frames =

@@ -7,7 +7,7 @@ use Rattle.ocl_lex.specs.declared.context.Context.{Context}
 use Rattle.ocl_lex.specs.declared.faults.LexFault.{LexFault}
 use Rattle.ocl_lex.specs.declared.faults.LexFault.TheVariants as fault
 use Rattle.ocl_lex.specs.declared.output.Output.{Output}
-use Rattle.ocl_lex.specs.declared.parts.Part.{Part}
+use Rattle.ocl_lex.specs.declared.parts.Lexeme.{Lexeme}
 use Rattle.ocl_lex.specs.declared.pieces.Piece.{Piece}
 use Rattle.ocl_lex.specs.Events.{Event, Stop}
 use Rattle.ocl_lex.specs.Lines.{Effect, State, end_token, ends, events, faults_of, one_name, parts_of}
@@ -42,7 +42,7 @@ NamesOne result text hash pieces = (s : State) (next : List ℕ → State) → M
     (λ f. (rest : List Event) × ((one_name text hash pieces s next).events ≡ Stop f ∷ rest))
 
 -- the parts behind the name of a `#define`
-abbrev pub ReadsParts : Result (Vec Part Global) LexFault → List ℕ → List Piece → Type 0
+abbrev pub ReadsParts : Result (Vec Lexeme Global) LexFault → List ℕ → List Piece → Type 0
 ReadsParts result text pieces = MatchResult result
     (λ parts. (faults_of text pieces ≡ []) × (parts.items ≡ parts_of text pieces))
     (λ f. (f ≡ fault.Memory) ⊎ ((rest : List Event) × (faults_of text pieces ≡ Stop f ∷ rest)))

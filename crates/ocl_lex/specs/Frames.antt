@@ -8,14 +8,14 @@ use Rattle.std.specs.Str.{bytes_eq}
 use Rattle.std.specs.Map.{lookup}
 use Rattle.ocl_lex.specs.declared.faults.LexFault.{LexFault}
 use Rattle.ocl_lex.specs.declared.output.Output.{Output}
-use Rattle.ocl_lex.specs.declared.parts.Part.{Part}
+use Rattle.ocl_lex.specs.declared.parts.Lexeme.{Lexeme}
 use Rattle.ocl_lex.specs.declared.pieces.Piece.{Piece}
 use Rattle.ocl_lex.specs.Events.{Event}
 use Rattle.ocl_lex.specs.Macros.{Macros, replaced, without}
 use Rattle.ocl_lex.specs.Telling.{TellsInFront}
 
 abbrev pub Frames : Type 0
-Frames = List (Bor (List ℕ) × Bor (List Part))
+Frames = List (Bor (List ℕ) × Bor (List Lexeme))
 
 -- the macros that the innermost replacement may use
 abbrev pub seen : Macros → Frames → Macros
@@ -23,7 +23,7 @@ seen macros [] = macros
 seen macros (f ∷ frames) = seen (without f.0.now macros) frames
 
 -- what the open replacements still show
-abbrev pub inner_events : List ℕ → Piece → Macros → List Part → List Event
+abbrev pub inner_events : List ℕ → Piece → Macros → List Lexeme → List Event
 inner_events text at macros parts = flat_map (replaced text macros true at) parts
 
 abbrev pub pending : List ℕ → Piece → Macros → Frames → List Event
@@ -34,16 +34,16 @@ abbrev pub is_open : List ℕ → Frames → Bool
 is_open name frames = is_some (lookup (λ k. bytes_eq name k.now) frames)
 
 -- a replacement that begins: its name and its parts
-abbrev pub Opens : Option (Bor (List ℕ) × Bor (List Part)) → List ℕ → Option (List Part) → Type 0
+abbrev pub Opens : Option (Bor (List ℕ) × Bor (List Lexeme)) → List ℕ → Option (List Lexeme) → Type 0
 Opens None name found = found ≡ None
 Opens (Some f) name found = (found ≡ Some f.1.now) × (f.0.now ≡ name)
 
 -- one part of the innermost replacement is told: what it shows, and then what the others still show
-abbrev pub StepsOn : {T : Type 0} → Result T LexFault → List ℕ → Piece → Macros → Output → Frames → Part → Output → Frames → Type 0
+abbrev pub StepsOn : {T : Type 0} → Result T LexFault → List ℕ → Piece → Macros → Output → Frames → Lexeme → Output → Frames → Type 0
 StepsOn result text at macros old frames part new frames_new =
     TellsInFront result old (replaced text (seen macros frames) true at part ++ pending text at macros frames) new (pending text at macros frames_new)
 
 -- what is left of the innermost replacement
-abbrev pub IsInnermost : Option (Bor (List Part)) → Frames → Type 0
+abbrev pub IsInnermost : Option (Bor (List Lexeme)) → Frames → Type 0
 IsInnermost None frames = frames ≡ []
 IsInnermost (Some parts) frames = (outer : Frames) × (name : Bor (List ℕ)) × (frames ≡ outer ++ (name, parts) ∷ [])

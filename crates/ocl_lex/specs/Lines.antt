@@ -11,11 +11,11 @@ use Rattle.ocl_lex.specs.declared.directives.DirectiveWord.TheVariants as word
 use Rattle.ocl_lex.specs.declared.conditions.Condition.{Condition}
 use Rattle.ocl_lex.specs.declared.faults.LexFault.{LexFault}
 use Rattle.ocl_lex.specs.declared.faults.LexFault.TheVariants as fault
-use Rattle.ocl_lex.specs.declared.parts.Part.{Part}
+use Rattle.ocl_lex.specs.declared.parts.Lexeme.{Lexeme}
 use Rattle.ocl_lex.specs.declared.pieces.Piece.{Piece}
 use Rattle.ocl_lex.specs.declared.pieces.PieceKind.{PieceKind}
 use Rattle.ocl_lex.specs.declared.pieces.PieceKind.TheVariants as kind
-use Rattle.ocl_lex.specs.declared.pieces.Place.{Place}
+use Rattle.ocl_lex.specs.declared.pieces.Cursor.{Cursor}
 use Rattle.ocl_lex.specs.Events.{Event, Show, Stop, within}
 use Rattle.ocl_lex.specs.Macros.{Macros, defined, undefined, predefined_macros, replaced, replacement_of}
 use Rattle.ocl_lex.specs.Parts.{part_of}
@@ -63,7 +63,7 @@ part_shown [] = true
 part_shown (c ∷ outer) = c.shown
 
 -- a piece of a line that is read, and one of a line that is skipped
-abbrev pub part_events : List ℕ → Macros → Piece → Result Part LexFault → List Event
+abbrev pub part_events : List ℕ → Macros → Piece → Result Lexeme LexFault → List Event
 part_events text macros p (Ok part) = replaced text macros false p part
 part_events text macros p (Err f) = Stop f ∷ []
 
@@ -133,15 +133,15 @@ one_name text hash (p ∷ pieces) s next =
     else stops (unwanted hash p) s
 
 -- the tokens behind the name of a `#define`, and their faults
-abbrev pub parts_in : Result Part LexFault → List Part
+abbrev pub parts_in : Result Lexeme LexFault → List Lexeme
 parts_in (Ok part) = part ∷ []
 parts_in (Err f) = []
 
-abbrev pub faults_in : Result Part LexFault → List Event
+abbrev pub faults_in : Result Lexeme LexFault → List Event
 faults_in (Ok part) = []
 faults_in (Err f) = Stop f ∷ []
 
-abbrev pub parts_of : List ℕ → List Piece → List Part
+abbrev pub parts_of : List ℕ → List Piece → List Lexeme
 parts_of text pieces = flat_map (λ p. parts_in (part_of text p)) pieces
 
 abbrev pub faults_of : List ℕ → List Piece → List Event
@@ -227,7 +227,7 @@ effect text s (p ∷ pieces) = if is_hash p.kind then directive_line text p piec
 
 -- ---- the whole text
 
-abbrev pub place_behind : Place → List ℕ → Place
+abbrev pub place_behind : Cursor → List ℕ → Cursor
 place_behind p [] = p
 place_behind p (c ∷ rest) = place_behind (after c p) rest
 

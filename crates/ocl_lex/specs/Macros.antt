@@ -7,8 +7,8 @@ use Rattle.std.specs.Map.{lookup}
 use Rattle.indexmap.specs.IndexMap.{insert_entry, swap_remove_entry}
 use Rattle.vx_base.specs.declared.types.Pos.{Pos}
 use Rattle.ocl_tokens.specs.declared.marks.Mark.TheVariants as mark
-use Rattle.ocl_lex.specs.declared.parts.Part.{Part}
-use Rattle.ocl_lex.specs.declared.parts.Part.TheVariants as part
+use Rattle.ocl_lex.specs.declared.parts.Lexeme.{Lexeme}
+use Rattle.ocl_lex.specs.declared.parts.Lexeme.TheVariants as part
 use Rattle.ocl_lex.specs.declared.pieces.Piece.{Piece}
 use Rattle.ocl_lex.specs.declared.predefined.Predefined.{Predefined}
 use Rattle.ocl_lex.specs.declared.predefined.Predefined.TheVariants as predefined
@@ -17,13 +17,13 @@ use Rattle.ocl_lex.specs.Parts.{between, name_of, token_at}
 
 -- Names and replacements. Their order says nothing.
 abbrev pub Macros : Type 0
-Macros = List (List ℕ × List Part)
+Macros = List (List ℕ × List Lexeme)
 
-abbrev pub replacement_of : List ℕ → Macros → Option (List Part)
+abbrev pub replacement_of : List ℕ → Macros → Option (List Lexeme)
 replacement_of name macros = lookup (bytes_eq name) macros
 
 -- a second definition takes the place of the first
-abbrev pub defined : List ℕ → List Part → Macros → Macros
+abbrev pub defined : List ℕ → List Lexeme → Macros → Macros
 defined name body macros = insert_entry bytes_eq macros name body
 
 -- the last macro takes the place of one that is taken out
@@ -34,23 +34,23 @@ abbrev pub without : List ℕ → Macros → Macros
 without name macros = filter (λ m. not (bytes_eq name m.0)) macros
 
 -- the replacement of a part, if it is a name that has one
-abbrev pub found : List ℕ → Macros → Part → Option (List Part)
+abbrev pub found : List ℕ → Macros → Lexeme → Option (List Lexeme)
 found text macros (part.Name start end) = replacement_of (between text start end) macros
 found text macros (part.Number value unsigned) = None
 found text macros (part.Mark m) = None
 
-abbrev pub used : Pos → Option (List Part) → (List Part → List Event) → List Event → List Event
+abbrev pub used : Pos → Option (List Lexeme) → (List Lexeme → List Event) → List Event → List Event
 used pos None inner plain = plain
 used pos (Some body) inner plain = Use pos ∷ inner body
 
 -- What a part at a piece shows. Inside a replacement the macro's own name is none of the macros, so replacements stand at
 -- most n deep where there are n macros.
-unfoldable pub shows : List ℕ → ℕ → Macros → Bool → Piece → Part → List Event
+unfoldable pub shows : List ℕ → ℕ → Macros → Bool → Piece → Lexeme → List Event
 shows text zero macros made at p = Show (token_at text made at p) ∷ []
 shows text (suc n) macros made at p =
     used at.pos (found text macros p) (flat_map (shows text n (without (name_of text p) macros) true at)) (Show (token_at text made at p) ∷ [])
 
-abbrev pub replaced : List ℕ → Macros → Bool → Piece → Part → List Event
+abbrev pub replaced : List ℕ → Macros → Bool → Piece → Lexeme → List Event
 replaced text macros = shows text (length macros) macros
 
 -- ---- the macros that are there from the start
@@ -74,17 +74,17 @@ predefined_name predefined.UcharMax = codes "UCHAR_MAX"
 predefined_name predefined.UshrtMax = codes "USHRT_MAX"
 predefined_name predefined.UintMax = codes "UINT_MAX"
 
-abbrev pub int : ℕ → Part
+abbrev pub int : ℕ → Lexeme
 int value = part.Number value false
 
 -- a number alone, and `(-value - 1)`
-abbrev pub one_number : ℕ → List Part
+abbrev pub one_number : ℕ → List Lexeme
 one_number value = int value ∷ []
 
-abbrev pub minus_number_minus_one : ℕ → List Part
+abbrev pub minus_number_minus_one : ℕ → List Lexeme
 minus_number_minus_one value = part.Mark mark.OpenParen ∷ part.Mark mark.Minus ∷ int value ∷ part.Mark mark.Minus ∷ int 1 ∷ part.Mark mark.CloseParen ∷ []
 
-abbrev pub predefined_body : Predefined → List Part
+abbrev pub predefined_body : Predefined → List Lexeme
 predefined_body predefined.OpenclVersion = one_number 120
 predefined_body predefined.OpenclCVersion = one_number 120
 predefined_body predefined.Version12 = one_number 120

@@ -7,7 +7,7 @@ use Rattle.ocl_lex.specs.declared.pieces.PieceKind.{PieceKind}
 use Rattle.ocl_lex.specs.declared.pieces.PieceKind.TheVariants as kind
 use Rattle.ocl_lex.specs.declared.pieces.Front.{Front}
 use Rattle.ocl_lex.specs.declared.pieces.Piece.{Piece}
-use Rattle.ocl_lex.specs.declared.pieces.Place.{Place}
+use Rattle.ocl_lex.specs.declared.pieces.Cursor.{Cursor}
 use Rattle.ocl_lex.specs.Bytes.{is_blank, is_feed, is_decimal, begins_name, is_in_name, is_in_number, is_in_line}
 use Rattle.ocl_lex.specs.Marks.{spelling_of, mark_at}
 
@@ -53,24 +53,24 @@ begins bytes =
     else mark_front (mark_at bytes))))))
 
 -- the place behind a byte, and the one where a text begins
-abbrev pub after : ℕ → Place → Place
+abbrev pub after : ℕ → Cursor → Cursor
 after c p =
     if is_feed c then record { at = p.at + 1; pos = record { line = p.pos.line + 1; col = 1 } }
     else record { at = p.at + 1; pos = record { line = p.pos.line; col = p.pos.col + 1 } }
 
-abbrev pub first_place : Place
+abbrev pub first_place : Cursor
 first_place = record { at = 0; pos = record { line = 1; col = 1 } }
 
 -- what keeps the numbers of a place small
-pub record IsNear (p : Place) : Type 0 where
+pub record IsNear (p : Cursor) : Type 0 where
   pub line : p.pos.line ≤ p.at + 1
   pub col : p.pos.col ≤ p.at + 1
 
-abbrev pub piece_at : Place → Front → Piece
+abbrev pub piece_at : Cursor → Front → Piece
 piece_at p f = record { kind = f.kind; start = p.at; end = p.at + f.len; pos = p.pos }
 
 -- the pieces of some bytes, the first of which are covered by a piece before them
-unfoldable pub cuts : ℕ → Place → List ℕ → List Piece
+unfoldable pub cuts : ℕ → Cursor → List ℕ → List Piece
 cuts covered p [] = []
 cuts (suc covered) p (c ∷ rest) = cuts covered (after c p) rest
 cuts zero p (c ∷ rest) = piece_at p (begins (c ∷ rest)) ∷ cuts ((begins (c ∷ rest)).len - 1) (after c p) rest

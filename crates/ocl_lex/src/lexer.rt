@@ -7,7 +7,7 @@ ghost use Rattle.ocl_lex.specs.Spans.{StandIn};
 use crate::context::Context;
 use crate::faults::LexFault;
 use crate::output::Output;
-use crate::pieces::{Place, pieces_of};
+use crate::pieces::{Cursor, pieces_of};
 use crate::reading::{close, read_lines};
 use ocl_tokens::{Token, TokenKind, Tokens};
 use std::alloc::Global;
@@ -16,11 +16,11 @@ use std::alloc::Global;
 const LIMIT: u32 = 1_048_576;
 
 /// The place behind the last byte of a text.
-fn end_place(text: &[u8]) -> Place
+fn end_place(text: &[u8]) -> Cursor
     requires { length text.now ≤ 1048576 }
     ensures { result ≡ spec.place_behind first_place text.now }
 {
-    let mut place = Place::FIRST;
+    let mut place = Cursor::FIRST;
     for byte in text {
         place = place.after(*byte);
     }

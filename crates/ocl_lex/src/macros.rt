@@ -3,7 +3,7 @@ ghost use Rattle.std.specs.Prelude.{◌≡◌, [], IfOk, OnOk};
 ghost use Rattle.std.specs.Option.{option_copied};
 ghost use Rattle.ocl_lex.specs.Macros as spec;
 
-use crate::parts::Part;
+use crate::parts::Lexeme;
 use crate::predefined::{ALL, Predefined, predefined_body, predefined_name};
 use indexmap::IndexMap;
 use std::alloc::{AllocError, Global};
@@ -12,7 +12,7 @@ use std::marker::Model;
 /// Names with their replacements, in order of declaration, where none was taken out.
 #[derive(Drop)]
 pub struct Macros {
-    table: IndexMap<Vec<u8>, Vec<Part>>,
+    table: IndexMap<Vec<u8>, Vec<Lexeme>>,
 }
 
 impl Model for Macros {
@@ -35,7 +35,7 @@ impl Macros {
     }
 
     /// The replacement of a name that is a macro.
-    pub fn replacement_of(&self, name: &[u8]) -> Option<&[Part]>
+    pub fn replacement_of(&self, name: &[u8]) -> Option<&[Lexeme]>
         ensures { option_copied result ≡ spec.replacement_of name.now self.now }
     {
         match self.table.get(name) {
@@ -45,7 +45,12 @@ impl Macros {
     }
 
     /// Makes a name a macro, or gives it another replacement.
-    pub fn define(&mut self, alloc: Global, name: &[u8], body: Vec<Part>) -> Result<(), AllocError>
+    pub fn define(
+        &mut self,
+        alloc: Global,
+        name: &[u8],
+        body: Vec<Lexeme>,
+    ) -> Result<(), AllocError>
         ensures { OnOk result (self.new ≡ spec.defined name.now body.items self.old) }
     {
         let name = Vec::from_slice(alloc, name)?;

@@ -4,7 +4,7 @@ ghost use Rattle.ocl_lex.specs.Doing.{NamesOne, Raises, ReadsParts};
 ghost use Rattle.ocl_lex.specs.Lines as spec;
 
 use crate::faults::LexFault;
-use crate::parts::{Part, part_of, text_of};
+use crate::parts::{Lexeme, part_of, text_of};
 use crate::pieces::{Piece, PieceKind};
 use ocl_tokens::Mark;
 use std::alloc::Global;
@@ -69,7 +69,7 @@ pub fn opens_parameters(name: Piece, pieces: &[Piece]) -> bool
 }
 
 /// The parts behind the name of a `#define`.
-pub fn parts_of(alloc: Global, text: &[u8], pieces: &[Piece]) -> Result<Vec<Part>, LexFault>
+pub fn parts_of(alloc: Global, text: &[u8], pieces: &[Piece]) -> Result<Vec<Lexeme>, LexFault>
     ensures { ReadsParts result text.now pieces.now }
 {
     let mut parts = Vec::new(alloc);

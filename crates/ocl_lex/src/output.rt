@@ -5,7 +5,7 @@ ghost use Rattle.ocl_lex.specs.Parts.{token_at};
 ghost use Rattle.ocl_lex.specs.Telling.{Tells};
 
 use crate::faults::LexFault;
-use crate::parts::{Part, token_at};
+use crate::parts::{Lexeme, token_at};
 use crate::pieces::Piece;
 use ocl_tokens::Token;
 use std::alloc::Global;
@@ -54,7 +54,7 @@ pub fn show_part(
     made: bool,
     at: Piece,
     out: &mut Output,
-    part: Part,
+    part: Lexeme,
 ) -> Result<(), LexFault>
     ensures tells { Tells result out.old out.new (Show (token_at text.now made at part) ∷ []) }
     ensures less { OnOk result (out.new.left < out.old.left) }

@@ -12,9 +12,9 @@ use crate::words::name_kind;
 use ocl_tokens::{Mark, Token, TokenKind};
 use std::alloc::{AllocError, Global};
 
-/// A part of a line of tokens, or of a macro's replacement.
+/// A lexeme: what a token is made of, in a line of the text or in a macro's replacement.
 #[derive(Clone, Copy, Debug, PartialEq, Eq)]
-pub enum Part {
+pub enum Lexeme {
     /// A name, perhaps a reserved word or a macro: the bytes of the text from `start` to `end`.
     Name {
         /// The byte of the text where it begins.
@@ -50,11 +50,11 @@ pub fn text_of(text: &[u8], piece: Piece) -> &[u8]
     between(text, piece.start, piece.end)
 }
 
-fn number_of(text: &[u8], piece: Piece) -> Result<Part, LexFault>
+fn number_of(text: &[u8], piece: Piece) -> Result<Lexeme, LexFault>
     ensures { result ≡ spec.number_or_bad piece.pos (literal_of (pieces.text_of text.now piece)) }
 {
     match literal_of(text_of(text, piece)) {
-        Some(literal) => Ok(Part::Number {
+        Some(literal) => Ok(Lexeme::Number {
             value: literal.value,
             unsigned: literal.unsigned,
         }),
@@ -63,16 +63,16 @@ fn number_of(text: &[u8], piece: Piece) -> Result<Part, LexFault>
 }
 
 /// What a piece adds to a line of tokens.
-pub fn part_of(text: &[u8], piece: Piece) -> Result<Part, LexFault>
+pub fn part_of(text: &[u8], piece: Piece) -> Result<Lexeme, LexFault>
     ensures { result ≡ spec.part_of text.now piece }
 {
     match piece.kind {
-        PieceKind::Name => Ok(Part::Name {
+        PieceKind::Name => Ok(Lexeme::Name {
             start: piece.start,
             end: piece.end,
         }),
         PieceKind::Number => number_of(text, piece),
-        PieceKind::Mark(mark) => Ok(Part::Mark(mark)),
+        PieceKind::Mark(mark) => Ok(Lexeme::Mark(mark)),
         PieceKind::OpenComment => Err(LexFault::OpenComment(piece.pos)),
         PieceKind::Blank | PieceKind::Feed | PieceKind::Hash | PieceKind::Bad => {
             Err(LexFault::BadByte(piece.pos))
@@ -80,13 +80,13 @@ pub fn part_of(text: &[u8], piece: Piece) -> Result<Part, LexFault>
     }
 }
 
-fn kind_of(alloc: Global, text: &[u8], part: Part) -> Result<TokenKind, AllocError>
+fn kind_of(alloc: Global, text: &[u8], part: Lexeme) -> Result<TokenKind, AllocError>
     ensures { IfOk result (λ kind. kind ≡ spec.kind_of text.now part) }
 {
     match part {
-        Part::Name { start, end } => name_kind(alloc, between(text, start, end)),
-        Part::Number { value, unsigned } => Ok(TokenKind::Number { value, unsigned }),
-        Part::Mark(mark) => Ok(TokenKind::Mark(mark)),
+        Lexeme::Name { start, end } => name_kind(alloc, between(text, start, end)),
+        Lexeme::Number { value, unsigned } => Ok(TokenKind::Number { value, unsigned }),
+        Lexeme::Mark(mark) => Ok(TokenKind::Mark(mark)),
     }
 }
 
@@ -96,7 +96,7 @@ pub fn token_at(
     text: &[u8],
     made: bool,
     at: Piece,
-    part: Part,
+    part: Lexeme,
 ) -> Result<Token, AllocError>
     ensures { IfOk result (λ token. token ≡ spec.token_at text.now made at part) }
 {

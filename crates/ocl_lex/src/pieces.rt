@@ -57,7 +57,7 @@ pub struct Piece {
 
 /// A place in a text.
 #[derive(Clone, Copy, Debug, PartialEq, Eq)]
-pub struct Place {
+pub struct Cursor {
     /// How many bytes stand before it.
     pub at: u32,
     /// Its line and column.
@@ -181,15 +181,15 @@ fn begins(bytes: &[u8]) -> Front
     }
 }
 
-impl Place {
+impl Cursor {
     /// The place where a text begins.
-    pub const FIRST: Place = Place {
+    pub const FIRST: Cursor = Cursor {
         at: 0,
         pos: Pos { line: 1, col: 1 },
     };
 
     /// The place behind a byte.
-    pub fn after(self, byte: u8) -> Place
+    pub fn after(self, byte: u8) -> Cursor
         requires near { spec.IsNear self }
         requires room { self.at < 2 ^ 24 }
         ensures value { result ≡ spec.after byte self }
@@ -197,7 +197,7 @@ impl Place {
     {
         let at = self.at + 1;
         if byte == b'\n' {
-            return Place {
+            return Cursor {
                 at,
                 pos: Pos {
                     line: self.pos.line + 1,
@@ -205,7 +205,7 @@ impl Place {
                 },
             };
         }
-        Place {
+        Cursor {
             at,
             pos: Pos {
                 line: self.pos.line,
@@ -223,7 +223,7 @@ fn is_shown(kind: PieceKind) -> bool
 }
 
 /// Adds what begins at a place to some pieces, unless it is a blank.
-fn begin(pieces: &mut Vec<Piece>, place: Place, front: Front) -> Result<(), AllocError>
+fn begin(pieces: &mut Vec<Piece>, place: Cursor, front: Front) -> Result<(), AllocError>
     requires at { place.at ≤ 2 ^ 24 }
     requires len { front.len ≤ 2 ^ 24 }
     ensures { OnOk result (pieces.new.items ≡ pieces.old.items ++ spec.shown_pieces (spec.piece_at place front ∷ [])) }
@@ -244,7 +244,7 @@ fn begin(pieces: &mut Vec<Piece>, place: Place, front: Front) -> Result<(), Allo
 fn pass(
     pieces: &mut Vec<Piece>,
     covered: usize,
-    place: Place,
+    place: Cursor,
     bytes: &[u8],
 ) -> Result<usize, AllocError>
     requires some { 0 < length bytes.now }
@@ -266,7 +266,7 @@ pub fn pieces_of(alloc: Global, text: &[u8]) -> Result<Vec<Piece>, AllocError>
     ensures { IfOk result (λ pieces. pieces.items ≡ spec.pieces_of text.now) }
 {
     let mut pieces = Vec::new(alloc);
-    let mut place = Place::FIRST;
+    let mut place = Cursor::FIRST;
     let mut covered = 0;
     for (at, byte) in text.iter().enumerate() {
         covered = pass(&mut pieces, covered, place, bytes_from(text, at))?;

@@ -2,7 +2,7 @@
 ghost use Rattle.std.specs.Prelude.{◌≡◌, IfOk};
 ghost use Rattle.ocl_lex.specs.Macros as spec;
 
-use crate::parts::Part;
+use crate::parts::Lexeme;
 use ocl_tokens::Mark;
 use std::alloc::{AllocError, Global};
 
@@ -91,38 +91,38 @@ pub fn predefined_name(predefined: Predefined) -> &'static [u8]
     }
 }
 
-fn int(value: u32) -> Part
+fn int(value: u32) -> Lexeme
     ensures { result ≡ spec.int value }
 {
-    Part::Number {
+    Lexeme::Number {
         value,
         unsigned: false,
     }
 }
 
-fn one_number(alloc: Global, value: u32) -> Result<Vec<Part>, AllocError>
+fn one_number(alloc: Global, value: u32) -> Result<Vec<Lexeme>, AllocError>
     ensures { IfOk result (λ parts. parts.items ≡ spec.one_number value) }
 {
     Vec::from_slice(alloc, &[int(value)])
 }
 
-fn minus_number_minus_one(alloc: Global, value: u32) -> Result<Vec<Part>, AllocError>
+fn minus_number_minus_one(alloc: Global, value: u32) -> Result<Vec<Lexeme>, AllocError>
     ensures { IfOk result (λ parts. parts.items ≡ spec.minus_number_minus_one value) }
 {
-    let minus = Part::Mark(Mark::Minus);
+    let minus = Lexeme::Mark(Mark::Minus);
     let parts = [
-        Part::Mark(Mark::OpenParen),
+        Lexeme::Mark(Mark::OpenParen),
         minus,
         int(value),
         minus,
         int(1),
-        Part::Mark(Mark::CloseParen),
+        Lexeme::Mark(Mark::CloseParen),
     ];
     Vec::from_slice(alloc, &parts)
 }
 
 /// The replacement of a macro that is there from the start.
-pub fn predefined_body(alloc: Global, predefined: Predefined) -> Result<Vec<Part>, AllocError>
+pub fn predefined_body(alloc: Global, predefined: Predefined) -> Result<Vec<Lexeme>, AllocError>
     ensures { IfOk result (λ parts. parts.items ≡ spec.predefined_body predefined) }
 {
     match predefined {
@@ -142,7 +142,7 @@ pub fn predefined_body(alloc: Global, predefined: Predefined) -> Result<Vec<Part
         Predefined::UshrtMax => one_number(alloc, 65535),
         Predefined::UintMax => Vec::from_slice(
             alloc,
-            &[Part::Number {
+            &[Lexeme::Number {
                 value: 4294967295,
                 unsigned: true,
             }],

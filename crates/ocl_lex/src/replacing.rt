@@ -10,7 +10,7 @@ ghost use Rattle.ocl_lex.specs.Telling.{Tells, TellsInFront};
 use crate::faults::LexFault;
 use crate::macros::Macros;
 use crate::output::{Output, count_use, show_part};
-use crate::parts::{Part, between};
+use crate::parts::{Lexeme, between};
 use crate::pieces::Piece;
 use indexmap::IndexMap;
 use std::alloc::Global;
@@ -20,13 +20,13 @@ use vx_base::Pos;
 fn to_open<'a>(
     text: &'a [u8],
     macros: &'a Macros,
-    frames: &IndexMap<&'a [u8], &'a [Part]>,
-    part: Part,
-) -> Option<(&'a [u8], &'a [Part])>
+    frames: &IndexMap<&'a [u8], &'a [Lexeme]>,
+    part: Lexeme,
+) -> Option<(&'a [u8], &'a [Lexeme])>
     ensures opens { Opens result (name_of text.now part) (found text.now (seen macros.now frames.now.entries) part) }
     ensures closed { IfSome result (λ f. is_open f.0.now frames.now.entries ≡ false) }
 {
-    let Part::Name { start, end } = part else {
+    let Lexeme::Name { start, end } = part else {
         return None;
     };
     let name = between(text, start, end);
@@ -43,9 +43,9 @@ fn to_open<'a>(
 fn open_macro<'a>(
     pos: Pos,
     out: &mut Output,
-    frames: &mut IndexMap<&'a [u8], &'a [Part]>,
+    frames: &mut IndexMap<&'a [u8], &'a [Lexeme]>,
     name: &'a [u8],
-    body: &'a [Part],
+    body: &'a [Lexeme],
 ) -> Result<(), LexFault>
     requires { is_open name.now frames.old.entries ≡ false }
     ensures tells { Tells result out.old out.new (Use pos ∷ []) }
@@ -64,8 +64,8 @@ fn tell_part<'a>(
     macros: &'a Macros,
     at: Piece,
     out: &mut Output,
-    frames: &mut IndexMap<&'a [u8], &'a [Part]>,
-    part: Part,
+    frames: &mut IndexMap<&'a [u8], &'a [Lexeme]>,
+    part: Lexeme,
 ) -> Result<(), LexFault>
     ensures steps { StepsOn result text.now at macros.now out.old frames.old.entries part out.new frames.new.entries }
     ensures less { OnOk result (2 * out.new.left + index_map_len frames.new < 2 * out.old.left + index_map_len frames.old) }
@@ -77,7 +77,7 @@ fn tell_part<'a>(
 }
 
 /// What is left of the innermost open replacement.
-fn innermost<'a>(frames: &IndexMap<&'a [u8], &'a [Part]>) -> Option<&'a [Part]>
+fn innermost<'a>(frames: &IndexMap<&'a [u8], &'a [Lexeme]>) -> Option<&'a [Lexeme]>
     ensures { IsInnermost result frames.now.entries }
 {
     match frames.last() {
@@ -87,7 +87,7 @@ fn innermost<'a>(frames: &IndexMap<&'a [u8], &'a [Part]>) -> Option<&'a [Part]>
 }
 
 /// Leaves some parts of the innermost open replacement, in place of those that were left.
-fn set_innermost<'a>(frames: &mut IndexMap<&'a [u8], &'a [Part]>, parts: &'a [Part])
+fn set_innermost<'a>(frames: &mut IndexMap<&'a [u8], &'a [Lexeme]>, parts: &'a [Lexeme])
     ensures entries { frames.new.entries ≡ set_value_at frames.old.entries (length frames.old.entries - 1) parts.entry }
     ensures len { index_map_len frames.new ≡ index_map_len frames.old }
 {
@@ -103,7 +103,7 @@ fn advance<'a>(
     macros: &'a Macros,
     at: Piece,
     out: &mut Output,
-    frames: &mut IndexMap<&'a [u8], &'a [Part]>,
+    frames: &mut IndexMap<&'a [u8], &'a [Lexeme]>,
 ) -> Result<bool, LexFault>
     ensures tells { TellsInFront result out.old (pending text.now at macros.now frames.old.entries) out.new (pending text.now at macros.now frames.new.entries) }
     ensures last { IfOk result (λ more. more ≡ false → frames.new.entries ≡ []) }
@@ -129,7 +129,7 @@ pub fn replace<'a>(
     at: Piece,
     out: &mut Output,
     name: &'a [u8],
-    body: &'a [Part],
+    body: &'a [Lexeme],
 ) -> Result<(), LexFault>
     ensures { Tells result out.old out.new (inner_events text.now at (without name.now macros.now) body.now) }
 {

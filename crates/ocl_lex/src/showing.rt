@@ -12,16 +12,16 @@ ghost use Rattle.ocl_lex.specs.Telling.{Tells};
 use crate::faults::LexFault;
 use crate::macros::Macros;
 use crate::output::{Output, count_use, show_part};
-use crate::parts::{Part, between, part_of};
+use crate::parts::{Lexeme, between, part_of};
 use crate::pieces::{Piece, PieceKind};
 use crate::replacing::replace;
 use std::alloc::Global;
 
 /// The macro that a part uses: its name and its replacement.
-fn use_of<'a>(text: &'a [u8], macros: &'a Macros, part: Part) -> Option<(&'a [u8], &'a [Part])>
+fn use_of<'a>(text: &'a [u8], macros: &'a Macros, part: Lexeme) -> Option<(&'a [u8], &'a [Lexeme])>
     ensures { Opens result (name_of text.now part) (found text.now macros.now part) }
 {
-    let Part::Name { start, end } = part else {
+    let Lexeme::Name { start, end } = part else {
         return None;
     };
     let name = between(text, start, end);
@@ -39,7 +39,7 @@ fn show_use(
     at: Piece,
     out: &mut Output,
     name: &[u8],
-    body: &[Part],
+    body: &[Lexeme],
 ) -> Result<(), LexFault>
     ensures { Tells result out.old out.new (Use at.pos ∷ inner_events text.now at (without name.now macros.now) body.now) }
 {
@@ -54,7 +54,7 @@ fn show_replaced(
     macros: &Macros,
     at: Piece,
     out: &mut Output,
-    part: Part,
+    part: Lexeme,
 ) -> Result<(), LexFault>
     ensures { Tells result out.old out.new (replaced text.now macros.now false at part) }
 {

@@ -23,7 +23,7 @@ use Rattle.kir.specs.Trees.{Operand, VariableOf, NumberOf, Set, Calculate, Fit, 
 use Rattle.ocl_inline.specs.Trees.{FlatValue, NoFlat, SomeFlat, FlatExpr, NumberFlat, VariableFlat, UnaryFlat, BinaryFlat, BothFlat, EitherFlat, ChooseFlat, CastFlat, LoadFlat, CallFlat, LostFlat, BuiltinFlat, ParenFlat, FlatArgs, NoFlatArgs, NumberArg, NamedArg, FlatStmt, DeclareFlat, LocalArrayFlat, SetVariableFlat, SetElementFlat, CallStmtFlat, BarrierFlat, IfFlat, IfElseFlat, WhileFlat, DoFlat, ForFlat, BreakFlat, ContinueFlat, ReturnFlat, BlockFlat, EmptyFlat, FlatStmts, NoFlats, AndFlat, FlatKernel}
 use Rattle.ocl_inline.specs.declared.trees.Binding.{Binding}
 use Rattle.ocl_inline.specs.declared.trees.Binding.TheVariants.{Variable as ToVariable, Dropped}
-use Rattle.ocl_norm.specs.Normal.{Part, calls, right_calls, right_branches, pair_ops, bound_ops, load_ops, store_ops, restore_ops, combined_variable, assigned_variable, changed_element, assigned_element, given_ops, value_ops, builtin_ops, args_ops, right_ops, declared_ops, return_ops, loop_ops, stmt_ops, stmts_ops, normal_kernel}
+use Rattle.ocl_norm.specs.Normal.{Fragment, calls, right_calls, right_branches, pair_ops, bound_ops, load_ops, store_ops, restore_ops, combined_variable, assigned_variable, changed_element, assigned_element, given_ops, value_ops, builtin_ops, args_ops, right_ops, declared_ops, return_ops, loop_ops, stmt_ops, stmts_ops, normal_kernel}
 use Rattle.ocl_norm.specs.Operators.{truth_ops, unary_ops, less_ops, binary_ops, picked_ops, magnitude_ops, one_ops, two_ops}
 use Rattle.ocl_inline.specs.Proper.{IsBound, IsProperKernel}
 use Rattle.ocl_norm.proofs.ProperParts.{ProperArgs, ProperExpr, ProperStmt, ProperStmts, ProperValue, body_proper}
@@ -228,7 +228,7 @@ one_below count builtin.MulHi unsigned a d c p fits below = id_below count built
 -- ---- parts
 
 -- A part behind so many variables of the kernel, which uses so many of its own.
-abbrev pub PartBelow : ℕ → ℕ → ℕ → Part → Type 0
+abbrev pub PartBelow : ℕ → ℕ → ℕ → Fragment → Type 0
 PartBelow few count room part = (d : ℕ) (c : Ops) → few ≤ d → d + room ≤ count → AreBelow count c → AreBelow count (part d c)
 
 bound_below : (few count : ℕ) (binding : Binding) (a : Operand) (c : Ops) → few ≤ count → IsBound few binding → IsBelow count a → AreBelow count c
@@ -253,7 +253,7 @@ restore_below : (count : ℕ) (checks : Bool) (array : ArrayRef) (elem : Elem) (
 restore_below count true array elem pos place value c p q below = store_below count array elem pos place value c p q below
 restore_below count false array elem pos place value c p q below = ((p, q), below)
 
-pair_below : (few count room room' : ℕ) (left : Part) (s : Standing) (right : Part) (s' : Standing) (calls : Bool) (join : Operand → Operand → ℕ → Ops → Ops)
+pair_below : (few count room room' : ℕ) (left : Fragment) (s : Standing) (right : Fragment) (s' : Standing) (calls : Bool) (join : Operand → Operand → ℕ → Ops → Ops)
     → Stands few room s → Stands few room' s' → PartBelow few count room left → PartBelow few count room' right
     → (d : ℕ) (c : Ops) → ((a b : Operand) → IsBelow count a → IsBelow count b → AreBelow count (join a b d c)) → few ≤ d → d + pair_room room s room' calls ≤ count
     → AreBelow count (pair_ops left s right s' calls join d c)
@@ -273,7 +273,7 @@ pair_below few count room room' left s right s' calls join stands stands' one ot
 
 -- ---- assignments
 
-combined_variable_below : (few count room : ℕ) (op : BinOp) (unsigned : Bool) (variable : ℕ) (elem : Elem) (right : Part) (s : Standing) (calls : Bool) → variable < few
+combined_variable_below : (few count room : ℕ) (op : BinOp) (unsigned : Bool) (variable : ℕ) (elem : Elem) (right : Fragment) (s : Standing) (calls : Bool) → variable < few
     → Stands few room s → PartBelow few count room right
     → PartBelow few count (max 1 (above calls (Named variable) room)) (combined_variable op unsigned variable elem right s calls)
 combined_variable_below few count room op unsigned variable elem right s calls less stands part d c le fits below =
@@ -282,7 +282,7 @@ combined_variable_below few count room op unsigned variable elem right s calls l
     (AndOp (Fit variable elem (VariableOf d)) c) (λ a b p q. binary_below count op unsigned a b d (AndOp (Fit variable elem (VariableOf d)) c) p q first ((omega arith, first), below))
     le (omega arith)
 
-assigned_variable_below : (few count room : ℕ) (op : AssignOp) (unsigned : Bool) (variable : ℕ) (elem : Elem) (right : Part) (s : Standing) (calls : Bool) → variable < few
+assigned_variable_below : (few count room : ℕ) (op : AssignOp) (unsigned : Bool) (variable : ℕ) (elem : Elem) (right : Fragment) (s : Standing) (calls : Bool) → variable < few
     → Stands few room s → PartBelow few count room right
     → PartBelow few count (assigned_room op room (max 1 (above calls (Named variable) room))) (assigned_variable op unsigned variable elem right s calls)
 assigned_variable_below few count room assign.Set unsigned variable elem right s calls less stands part d c le fits below =
@@ -294,7 +294,7 @@ assigned_variable_below few count room assign.Up unsigned variable elem right s 
 assigned_variable_below few count room assign.Down unsigned variable elem right s calls less stands part d c le fits below =
     combined_variable_below few count room Sub unsigned variable elem right s calls less stands part d c le fits below
 
-changed_element_below : (few count room room' : ℕ) (op : BinOp) (unsigned : Bool) (array : ArrayRef) (elem : Elem) (pos : Pos) (place : Part) (p : Standing) (right : Part)
+changed_element_below : (few count room room' : ℕ) (op : BinOp) (unsigned : Bool) (array : ArrayRef) (elem : Elem) (pos : Pos) (place : Fragment) (p : Standing) (right : Fragment)
     (s : Standing) (calls checks : Bool) → Stands few room p → Stands few room' s → PartBelow few count room place → PartBelow few count room' right
     → PartBelow few count (pair_room room p (suc room') calls) (changed_element op unsigned array elem pos place p right s calls checks)
 changed_element_below few count room room' op unsigned array elem pos place p right s calls checks stands stands' one other d c le fits below =
@@ -317,7 +317,7 @@ changed_element_below few count room room' op unsigned array elem pos place p ri
     one d (copied calls p d (load_ops array elem pos a q v)) le first
     (copied_below few count room (suc room') d calls p (load_ops array elem pos a q v) stands le second (load_below count array elem pos a q v held here vs))
 
-assigned_element_below : (few count room room' : ℕ) (op : AssignOp) (unsigned : Bool) (array : ArrayRef) (elem : Elem) (pos : Pos) (place : Part) (p : Standing) (right : Part)
+assigned_element_below : (few count room room' : ℕ) (op : AssignOp) (unsigned : Bool) (array : ArrayRef) (elem : Elem) (pos : Pos) (place : Fragment) (p : Standing) (right : Fragment)
     (s : Standing) (calls checks : Bool) → Stands few room p → Stands few room' s → PartBelow few count room place → PartBelow few count room' right
     → PartBelow few count (assigned_room op (pair_room room p room' calls) (pair_room room p (suc room') calls))
     (assigned_element op unsigned array elem pos place p right s calls checks)

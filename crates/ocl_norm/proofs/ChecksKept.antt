@@ -20,7 +20,7 @@ use Rattle.kir.specs.Trees.{Operand, VariableOf, NumberOf, Set, Fit, Id, Store, 
 use Rattle.ocl_inline.specs.Trees.{FlatValue, NoFlat, SomeFlat, FlatExpr, NumberFlat, VariableFlat, UnaryFlat, BinaryFlat, BothFlat, EitherFlat, ChooseFlat, CastFlat, LoadFlat, CallFlat, LostFlat, BuiltinFlat, ParenFlat, FlatArgs, NoFlatArgs, NumberArg, NamedArg, FlatStmt, DeclareFlat, LocalArrayFlat, SetVariableFlat, SetElementFlat, CallStmtFlat, BarrierFlat, IfFlat, IfElseFlat, WhileFlat, DoFlat, ForFlat, BreakFlat, ContinueFlat, ReturnFlat, BlockFlat, EmptyFlat, FlatStmts, NoFlats, AndFlat, FlatKernel}
 use Rattle.ocl_inline.specs.declared.trees.Binding.{Binding}
 use Rattle.ocl_inline.specs.declared.trees.Binding.TheVariants.{Variable as ToVariable, Dropped}
-use Rattle.ocl_norm.specs.Normal.{Part, calls, right_calls, branches, args_branch, right_branches, pair_ops, bound_ops, load_ops, store_ops, combined_variable, assigned_variable, combined_element, changed_element, assigned_element, given_ops, value_ops, builtin_ops, args_ops, right_ops, declared_ops, return_ops, loop_ops, stmt_ops, stmts_ops, normal_kernel}
+use Rattle.ocl_norm.specs.Normal.{Fragment, calls, right_calls, branches, args_branch, right_branches, pair_ops, bound_ops, load_ops, store_ops, combined_variable, assigned_variable, combined_element, changed_element, assigned_element, given_ops, value_ops, builtin_ops, args_ops, right_ops, declared_ops, return_ops, loop_ops, stmt_ops, stmts_ops, normal_kernel}
 use Rattle.ocl_norm.specs.Operators.{truth_ops, unary_ops, binary_ops, one_ops, two_ops}
 use Rattle.ocl_inline.specs.Proper.{IsProperKernel}
 use Rattle.ocl_norm.proofs.ProperParts.{ProperArgs, ProperExpr, ProperStmt, ProperStmts, ProperValue, body_proper}
@@ -133,10 +133,10 @@ passes_second : (k : Option Known) (a b : Bool) → Passes k (a || b) → Passes
 passes_second None a b passes = tt
 passes_second (Some k) a b passes = not_second a b passes
 
-abbrev pub PartFine : ℕ → Option Known → Part → Type 0
+abbrev pub PartFine : ℕ → Option Known → Fragment → Type 0
 PartFine count k part = (d : ℕ) (c : Ops) → count ≤ d → Clear d k → Fine k c → Fine k (part d c)
 
-pair_fine : (count : ℕ) (k : Option Known) (left : Part) (s : Standing) (right : Part) (s' : Standing) (calls : Bool) (join : Operand → Operand → ℕ → Ops → Ops)
+pair_fine : (count : ℕ) (k : Option Known) (left : Fragment) (s : Standing) (right : Fragment) (s' : Standing) (calls : Bool) (join : Operand → Operand → ℕ → Ops → Ops)
     → PartFine count k left → PartFine count k right → ((a b : Operand) → PartFine count k (join a b)) → PartFine count k (pair_ops left s right s' calls join)
 pair_fine count k left s right s' calls join one other joins d c le clear fine =
     let q : ℕ = above calls s d in
@@ -164,13 +164,13 @@ settled_fine d s c fine = settled_in (Fine None) d (front_fine None d tt) s c fi
 
 -- ---- assignments
 
-combined_variable_fine : (count : ℕ) (op : BinOp) (unsigned : Bool) (variable : ℕ) (elem : Elem) (right : Part) (s : Standing) (calls : Bool) → PartFine count None right
+combined_variable_fine : (count : ℕ) (op : BinOp) (unsigned : Bool) (variable : ℕ) (elem : Elem) (right : Fragment) (s : Standing) (calls : Bool) → PartFine count None right
     → PartFine count None (combined_variable op unsigned variable elem right s calls)
 combined_variable_fine count op unsigned variable elem right s calls part d c le clear fine =
     pair_fine count None (λ first after. after) (Named variable) right s calls (binary_ops op unsigned) (λ first after low free w. w) part (binary_fine count None op unsigned) d
     (AndOp (Fit variable elem (VariableOf d)) c) le clear (fit_fine variable elem (VariableOf d) c fine)
 
-assigned_variable_fine : (count : ℕ) (op : AssignOp) (unsigned : Bool) (variable : ℕ) (elem : Elem) (right : Part) (s : Standing) (calls : Bool) → PartFine count None right
+assigned_variable_fine : (count : ℕ) (op : AssignOp) (unsigned : Bool) (variable : ℕ) (elem : Elem) (right : Fragment) (s : Standing) (calls : Bool) → PartFine count None right
     → PartFine count None (assigned_variable op unsigned variable elem right s calls)
 assigned_variable_fine count assign.Set unsigned variable elem right s calls part d c le clear fine =
     part d (AndOp (Fit variable elem (operand_at s d)) c) le clear (fit_fine variable elem (operand_at s d) c fine)
@@ -195,10 +195,10 @@ held_clear count true Made d array le stands = λ j more. unread j d (omega arit
 held_clear count false Made d array le stands = λ j more. unread j d (omega arith)
 
 -- a right side that is checked, whatever is asked where it has no branches
-abbrev pub RightFine : ℕ → Bool → Part → Type 0
+abbrev pub RightFine : ℕ → Bool → Fragment → Type 0
 RightFine count checks right = (k : Option Known) → Passes k checks → PartFine count k right
 
-combined_element_fine : (count : ℕ) (op : BinOp) (unsigned : Bool) (array : ArrayRef) (elem : Elem) (pos : Pos) (right : Part) (s : Standing) (checks : Bool) (place : Operand)
+combined_element_fine : (count : ℕ) (op : BinOp) (unsigned : Bool) (array : ArrayRef) (elem : Elem) (pos : Pos) (right : Fragment) (s : Standing) (checks : Bool) (place : Operand)
     (t : ℕ) (c : Ops) → count ≤ t → Clear t (Some (record { array = array; index = place })) → RightFine count checks right → Fine None c
     → Fine None (combined_element op unsigned array elem pos right s checks place t c)
 combined_element_fine count op unsigned array elem pos right s true place t c le clear part fine ks knows =
@@ -216,7 +216,7 @@ combined_element_fine count op unsigned array elem pos right s false place t c l
     let both : Fine (Some k) (right (suc t) y) = part (Some k) refl (suc t) y (omega arith) (clear_later t (suc t) (Some k) (omega arith) clear) behind in
     (tt, (inl refl, both (forgotten t (k ∷ ks)) (still t (Some k) t (k ∷ ks) clear (omega arith) (inl refl))))
 
-changed_element_fine : (count : ℕ) (op : BinOp) (unsigned : Bool) (array : ArrayRef) (elem : Elem) (pos : Pos) (place : Part) (p : Standing) (right : Part) (s : Standing)
+changed_element_fine : (count : ℕ) (op : BinOp) (unsigned : Bool) (array : ArrayRef) (elem : Elem) (pos : Pos) (place : Fragment) (p : Standing) (right : Fragment) (s : Standing)
     (calls checks : Bool) → IsStanding count p → PartFine count None place → RightFine count checks right
     → PartFine count None (changed_element op unsigned array elem pos place p right s calls checks)
 changed_element_fine count op unsigned array elem pos place p right s calls checks stands one other d c le clear fine =
@@ -227,7 +227,7 @@ changed_element_fine count op unsigned array elem pos place p right s calls chec
     (copied_in (Fine None) d (front_fine None d tt) calls p x
     (combined_element_fine count op unsigned array elem pos right s checks (held_at calls p d) q c (omega arith) (held_clear count calls p d array le stands) other fine))
 
-assigned_element_fine : (count : ℕ) (op : AssignOp) (unsigned : Bool) (array : ArrayRef) (elem : Elem) (pos : Pos) (place : Part) (p : Standing) (right : Part) (s : Standing)
+assigned_element_fine : (count : ℕ) (op : AssignOp) (unsigned : Bool) (array : ArrayRef) (elem : Elem) (pos : Pos) (place : Fragment) (p : Standing) (right : Fragment) (s : Standing)
     (calls checks : Bool) → IsStanding count p → PartFine count None place → RightFine count checks right
     → PartFine count None (assigned_element op unsigned array elem pos place p right s calls checks)
 assigned_element_fine count assign.Set unsigned array elem pos place p right s calls checks stands one other d c le clear fine =

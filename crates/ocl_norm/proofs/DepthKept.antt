@@ -18,7 +18,7 @@ use Rattle.ocl_inline.specs.FlatMeasures.{flat_expr_control, flat_value_control,
 use Rattle.ocl_inline.specs.Trees.{FlatValue, NoFlat, SomeFlat, FlatExpr, NumberFlat, VariableFlat, UnaryFlat, BinaryFlat, BothFlat, EitherFlat, ChooseFlat, CastFlat, LoadFlat, CallFlat, LostFlat, BuiltinFlat, ParenFlat, FlatArgs, NoFlatArgs, NumberArg, NamedArg, FlatStmt, DeclareFlat, LocalArrayFlat, SetVariableFlat, SetElementFlat, CallStmtFlat, BarrierFlat, IfFlat, IfElseFlat, WhileFlat, DoFlat, ForFlat, BreakFlat, ContinueFlat, ReturnFlat, BlockFlat, EmptyFlat, FlatStmts, NoFlats, AndFlat, FlatKernel}
 use Rattle.ocl_inline.specs.declared.trees.Binding.{Binding}
 use Rattle.ocl_inline.specs.declared.trees.Binding.TheVariants.{Variable as ToVariable, Dropped}
-use Rattle.ocl_norm.specs.Normal.{Part, calls, right_calls, right_branches, pair_ops, bound_ops, load_ops, store_ops, restore_ops, combined_variable, assigned_variable, combined_element, changed_element, assigned_element, given_ops, value_ops, builtin_ops, args_ops, right_ops, declared_ops, return_ops, loop_ops, stmt_ops, stmts_ops, normal_kernel}
+use Rattle.ocl_norm.specs.Normal.{Fragment, calls, right_calls, right_branches, pair_ops, bound_ops, load_ops, store_ops, restore_ops, combined_variable, assigned_variable, combined_element, changed_element, assigned_element, given_ops, value_ops, builtin_ops, args_ops, right_ops, declared_ops, return_ops, loop_ops, stmt_ops, stmts_ops, normal_kernel}
 use Rattle.ocl_norm.specs.Operators.{truth_ops, unary_ops, binary_ops, one_ops, two_ops}
 use Rattle.ocl_norm.specs.Standings.{Standing, Named, standing, right_standing, operand_at, copied, held_at, above, settled}
 use Rattle.ocl_norm.proofs.InFront.{InFront, truth_in, unary_in, binary_in, one_in, two_in, copied_in, settled_in}
@@ -129,10 +129,10 @@ given_within n k Nothing a result c one = set_within n k result a c one
 given_within n k (Value elem) a result c one = fit_within n k result elem a c one
 
 -- A part that stands within so many others keeps what follows so.
-abbrev pub PartWithin : ℕ → ℕ → Part → Type 0
+abbrev pub PartWithin : ℕ → ℕ → Fragment → Type 0
 PartWithin n k part = (d : ℕ) (c : Ops) → Within n k c → Within n k (part d c)
 
-pair_within : (n k : ℕ) (left : Part) (s : Standing) (right : Part) (s' : Standing) (calls : Bool) (join : Operand → Operand → ℕ → Ops → Ops) → PartWithin n k left → PartWithin n k right
+pair_within : (n k : ℕ) (left : Fragment) (s : Standing) (right : Fragment) (s' : Standing) (calls : Bool) (join : Operand → Operand → ℕ → Ops → Ops) → PartWithin n k left → PartWithin n k right
     → ((a b : Operand) → PartWithin n k (join a b)) → PartWithin n k (pair_ops left s right s' calls join)
 pair_within n k left s right s' calls join one other joins d c within =
     let y : Ops = join (held_at calls s d) (operand_at s' (above calls s d)) d c in
@@ -154,13 +154,13 @@ settled_within n k s d c within = settled_in (Within n k) d (front_within n k d)
 id_within : (n k d : ℕ) (which : Builtin) (a : Operand) (c : Ops) → Within n k c → Within n k (AndOp (Id d which a) c)
 id_within n k d which a c one = single_within n k (Id d which a) c (omega arith) (omega arith) (omega arith) one
 
-combined_variable_within : (n k : ℕ) (op : BinOp) (unsigned : Bool) (variable : ℕ) (elem : Elem) (right : Part) (s : Standing) (calls : Bool) → PartWithin n k right
+combined_variable_within : (n k : ℕ) (op : BinOp) (unsigned : Bool) (variable : ℕ) (elem : Elem) (right : Fragment) (s : Standing) (calls : Bool) → PartWithin n k right
     → PartWithin n k (combined_variable op unsigned variable elem right s calls)
 combined_variable_within n k op unsigned variable elem right s calls part d c within =
     pair_within n k (λ first after. after) (Named variable) right s calls (binary_ops op unsigned) (λ first after w. w) part (binary_within n k op unsigned) d
     (AndOp (Fit variable elem (VariableOf d)) c) (fit_within n k variable elem (VariableOf d) c within)
 
-assigned_variable_within : (n k : ℕ) (op : AssignOp) (unsigned : Bool) (variable : ℕ) (elem : Elem) (right : Part) (s : Standing) (calls : Bool) → PartWithin n k right
+assigned_variable_within : (n k : ℕ) (op : AssignOp) (unsigned : Bool) (variable : ℕ) (elem : Elem) (right : Fragment) (s : Standing) (calls : Bool) → PartWithin n k right
     → PartWithin n k (assigned_variable op unsigned variable elem right s calls)
 assigned_variable_within n k assign.Set unsigned variable elem right s calls part d c within =
     part d (AndOp (Fit variable elem (operand_at s d)) c) (fit_within n k variable elem (operand_at s d) c within)
@@ -171,7 +171,7 @@ assigned_variable_within n k assign.Up unsigned variable elem right s calls part
 assigned_variable_within n k assign.Down unsigned variable elem right s calls part d c within =
     combined_variable_within n k Sub unsigned variable elem right s calls part d c within
 
-combined_element_within : (n k : ℕ) (op : BinOp) (unsigned : Bool) (array : ArrayRef) (elem : Elem) (pos : Pos) (right : Part) (s : Standing) (checks : Bool) (place : Operand)
+combined_element_within : (n k : ℕ) (op : BinOp) (unsigned : Bool) (array : ArrayRef) (elem : Elem) (pos : Pos) (right : Fragment) (s : Standing) (checks : Bool) (place : Operand)
     → PartWithin n k right → PartWithin n k (combined_element op unsigned array elem pos right s checks place)
 combined_element_within n k op unsigned array elem pos right s checks place part t c within =
     let z : Ops = restore_ops checks array elem pos place (VariableOf t) c in
@@ -179,14 +179,14 @@ combined_element_within n k op unsigned array elem pos right s checks place part
     load_within n k array elem pos place t (right (suc t) y)
     (part (suc t) y (binary_within n k op unsigned (VariableOf t) (operand_at s (suc t)) t z (restore_within n k checks array elem pos place (VariableOf t) c within)))
 
-changed_element_within : (n k : ℕ) (op : BinOp) (unsigned : Bool) (array : ArrayRef) (elem : Elem) (pos : Pos) (place : Part) (p : Standing) (right : Part) (s : Standing)
+changed_element_within : (n k : ℕ) (op : BinOp) (unsigned : Bool) (array : ArrayRef) (elem : Elem) (pos : Pos) (place : Fragment) (p : Standing) (right : Fragment) (s : Standing)
     (calls checks : Bool) → PartWithin n k place → PartWithin n k right → PartWithin n k (changed_element op unsigned array elem pos place p right s calls checks)
 changed_element_within n k op unsigned array elem pos place p right s calls checks one other d c within =
     let x : Ops = combined_element op unsigned array elem pos right s checks (held_at calls p d) (above calls p d) c in
     one d (copied calls p d x) (copied_in (Within n k) d (front_within n k d) calls p x
     (combined_element_within n k op unsigned array elem pos right s checks (held_at calls p d) other (above calls p d) c within))
 
-assigned_element_within : (n k : ℕ) (op : AssignOp) (unsigned : Bool) (array : ArrayRef) (elem : Elem) (pos : Pos) (place : Part) (p : Standing) (right : Part) (s : Standing)
+assigned_element_within : (n k : ℕ) (op : AssignOp) (unsigned : Bool) (array : ArrayRef) (elem : Elem) (pos : Pos) (place : Fragment) (p : Standing) (right : Fragment) (s : Standing)
     (calls checks : Bool) → PartWithin n k place → PartWithin n k right → PartWithin n k (assigned_element op unsigned array elem pos place p right s calls checks)
 assigned_element_within n k assign.Set unsigned array elem pos place p right s calls checks one other d c within =
     pair_within n k place p right s calls (λ a b first after. store_ops array elem pos a b after) one other (λ a b first after w. store_within n k array elem pos a b after w) d c within

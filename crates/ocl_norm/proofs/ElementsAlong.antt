@@ -16,13 +16,13 @@ use Rattle.kir.specs.Machine.{state, Task, value, ops_tasks}
 use Rattle.kir.specs.Trees.{Operand, VariableOf, Ops}
 use Rattle.ocl_inline.specs.FlatTasks.{FlatTask}
 use Rattle.ocl_inline.specs.Trees.{FlatExpr, LoadFlat}
-use Rattle.ocl_norm.specs.Normal.{Part, pair_ops, load_ops, store_ops, restore_ops, combined_element, changed_element}
+use Rattle.ocl_norm.specs.Normal.{Fragment, pair_ops, load_ops, store_ops, restore_ops, combined_element, changed_element}
 use Rattle.ocl_norm.specs.Operators.{binary_ops}
 use Rattle.ocl_norm.specs.Standings.{Standing, standing, operand_at, copied, held_at, above}
 use Rattle.ocl_norm.proofs.AccessesAlong.{Accesses, Changes, load_both, store_both, restores}
 use Rattle.ocl_norm.proofs.ChoicesAlong.{ValueGoes}
 use Rattle.ocl_norm.proofs.OperatorLaws.{binary_holds}
-use Rattle.ocl_norm.proofs.Relations.{flat_state, Along, Alike, Kept, kept_put, alike_self, alike_on, alike_kept}
+use Rattle.ocl_norm.proofs.Relations.{flat_state, Along, Alike, SameBelow, kept_put, alike_self, alike_on, alike_kept}
 use Rattle.ocl_norm.proofs.StatementsAlong.{Acts, Behind}
 use Rattle.ocl_norm.proofs.ValuesAlong.{Gives, IsStanding, Stays, above_from, holds_it, pair_goes}
 
@@ -39,8 +39,8 @@ load_goes at count array elem place pos accesses gives n d c ts ts' values vs vs
     (put_at_same d z vs1') (fitted-lt elem answer)))
 
 -- `=`
-pub set_element_acts : (at : Setting) (count : ℕ) (array : ArrayRef) (elem : Elem) (pos : Pos) (tasks : List FlatTask → List FlatTask) (place : Part) (p : Standing) (place_calls : Bool)
-    (tasks' : List FlatTask → List FlatTask) (right : Part) (s : Standing) (right_calls : Bool) → Accesses at array elem → Changes at array → IsStanding count p
+pub set_element_acts : (at : Setting) (count : ℕ) (array : ArrayRef) (elem : Elem) (pos : Pos) (tasks : List FlatTask → List FlatTask) (place : Fragment) (p : Standing) (place_calls : Bool)
+    (tasks' : List FlatTask → List FlatTask) (right : Fragment) (s : Standing) (right_calls : Bool) → Accesses at array elem → Changes at array → IsStanding count p
     → Gives at count tasks place p place_calls → Gives at count tasks' right s right_calls
     → Acts at count (λ ts. tasks (tasks' (task.Store array pos ∷ ts)))
     (λ r c. pair_ops place p right s right_calls (λ a b first after. store_ops array elem pos a b after) (suc r) c)
@@ -56,7 +56,7 @@ set_element_acts at count array elem pos tasks place p place_calls tasks' right 
 
 -- an operator: what stood there is loaded before the right side is evaluated
 combines : (at : Setting) (count : ℕ) (op : BinOp) (unsigned : Bool) (array : ArrayRef) (elem : Elem) (pos : Pos) (p : Standing)
-    (tasks' : List FlatTask → List FlatTask) (right : Part) (s : Standing) (right_calls checks : Bool) → Accesses at array elem → Changes at array
+    (tasks' : List FlatTask → List FlatTask) (right : Fragment) (s : Standing) (right_calls checks : Bool) → Accesses at array elem → Changes at array
     → Gives at count tasks' right s right_calls
     → (n r : ℕ) (c : Ops) (ts : List FlatTask) (ts' : List Task) (values : List ℕ) (vs' vs1 vs2' : ℕ → ℕ) (us : List ℕ) (i : ℕ) → count ≤ r
     → Alike count (suc r) vs' vs1 vs2' → value vs2' (held_at right_calls p (suc r)) ≡ i → Stays count right_calls p (suc r) i vs1 vs2' → Behind at count n r ts (ops_tasks c ts') values vs' us
@@ -75,7 +75,7 @@ combines at count op unsigned array elem pos p tasks' right s right_calls checks
     (λ below answer.
     let old : ℕ = fitted elem answer in
     let vs3' : ℕ → ℕ = put_at t old vs2' in
-    let kept3 : Kept t vs2' vs3' = kept_put t t old vs2' (omega arith) in
+    let kept3 : SameBelow t vs2' vs3' = kept_put t t old vs2' (omega arith) in
     let a3 : Alike count t vs2' vs1 vs3' = alike_kept count t t vs2' vs1 vs2' vs3' (omega arith) (omega arith) kept3 (alike_self count (suc r) vs' vs1 vs2' t alike) in
     gives n (suc t) (binary_ops op unsigned (VariableOf t) y t stored) rest ts' (old ∷ i ∷ values) vs1 vs3' us (omega arith) (alike_self count t vs2' vs1 vs3' (suc t) a3)
     (λ w vs4 vs4' a4 same e4 word4.
@@ -91,8 +91,8 @@ combines at count op unsigned array elem pos p tasks' right s right_calls checks
     (stays vs4 vs5' a5 same) at5 (lt-ltb i (at.array array).count below)
     (next vs4 vs5' (alike_on count (suc r) t vs' vs1 vs2' vs4 vs5' from alike a5))))))
 
-pub change_element_acts : (at : Setting) (count : ℕ) (op : BinOp) (unsigned : Bool) (array : ArrayRef) (elem : Elem) (pos : Pos) (tasks : List FlatTask → List FlatTask) (place : Part)
-    (p : Standing) (place_calls : Bool) (tasks' : List FlatTask → List FlatTask) (right : Part) (s : Standing) (right_calls checks : Bool) → Accesses at array elem → Changes at array
+pub change_element_acts : (at : Setting) (count : ℕ) (op : BinOp) (unsigned : Bool) (array : ArrayRef) (elem : Elem) (pos : Pos) (tasks : List FlatTask → List FlatTask) (place : Fragment)
+    (p : Standing) (place_calls : Bool) (tasks' : List FlatTask → List FlatTask) (right : Fragment) (s : Standing) (right_calls checks : Bool) → Accesses at array elem → Changes at array
     → IsStanding count p → Gives at count tasks place p place_calls → Gives at count tasks' right s right_calls
     → Acts at count (λ ts. tasks (task.Reread array pos ∷ tasks' (task.Binary op unsigned ∷ task.Store array pos ∷ ts)))
     (λ r c. changed_element op unsigned array elem pos place p right s right_calls checks (suc r) c)

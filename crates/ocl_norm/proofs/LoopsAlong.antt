@@ -15,7 +15,7 @@ use Rattle.kir.specs.Machine.{state, Task, Do, Decide, Again, Turning, value, st
 use Rattle.kir.specs.Trees.{VariableOf, NumberOf, Loop, Ops, NoOps}
 use Rattle.ocl_inline.specs.FlatTasks.{FlatTask, FlatLoop, flat_parts, loop_of, value_tasks, stmt_tasks, stmts_tasks}
 use Rattle.ocl_inline.specs.Trees.{FlatExpr, FlatValue, NoFlat, SomeFlat, value_of, FlatStmt, WhileFlat, DoFlat, ForFlat, BlockFlat, FlatStmts, NoFlats}
-use Rattle.ocl_norm.specs.Normal.{Part, loop_ops, stmt_ops, stmts_ops, value_ops}
+use Rattle.ocl_norm.specs.Normal.{Fragment, loop_ops, stmt_ops, stmts_ops, value_ops}
 use Rattle.ocl_norm.specs.Standings.{standing, operand_at, settled}
 use Rattle.ocl_norm.proofs.ChoicesAlong.{ValueGoes, not_zero, settles}
 use Rattle.ocl_norm.proofs.Relations.{FlatState, flat_state, Along, Alike, alike_self, alike_on, alike_kept, kept_put, sets}
@@ -176,7 +176,7 @@ head_leaves at count n r (SomeFlat e) st body body_ops step_ops d ts ts' values 
     leaves_over at count n r (value_tasks e) (value_ops e d NoOps) (task.Decide loop ∷ ts) (Decide loop' ∷ ts') values vs' (k ∷ us) (value_skips e)
     (start_leaves at count n r (task.Decide loop) loop' ts ts' values vs' k us refl out leave)
 
-rounds_of : (at : Setting) (count r : ℕ) (test : FlatValue) (st body : FlatStmt) (step_part : Part) (body_ops : Ops) → count ≤ r → TestGoes at count test → Acts at count (stmt_tasks st) step_part
+rounds_of : (at : Setting) (count r : ℕ) (test : FlatValue) (st body : FlatStmt) (step_part : Fragment) (body_ops : Ops) → count ≤ r → TestGoes at count test → Acts at count (stmt_tasks st) step_part
     → Rounds at count r (loop_of test st body) (kir_loop test body_ops (step_part r NoOps) (suc r))
 rounds_of at count r test st body step_part body_ops le tests acts m k ts ts' values vs vs' us alike none out leave turns =
     let loop : FlatLoop = loop_of test st body in
@@ -209,7 +209,7 @@ its_body : (test : FlatValue) (body_ops step_ops : Ops) (d : ℕ) → (kir_loop 
 its_body NoFlat body_ops step_ops d = refl
 its_body (SomeFlat e) body_ops step_ops d = refl
 
-pub loop_acts : (at : Setting) (count : ℕ) (test : FlatValue) (st body : FlatStmt) (step_part : Part) → TestGoes at count test → Acts at count (stmt_tasks st) step_part → StmtGoes at count body
+pub loop_acts : (at : Setting) (count : ℕ) (test : FlatValue) (st body : FlatStmt) (step_part : Fragment) → TestGoes at count test → Acts at count (stmt_tasks st) step_part → StmtGoes at count body
     → Acts at count (λ ts. task.Enter (loop_of test st body) ∷ ts) (λ r c. loop_ops test (stmt_ops body r NoOps) (step_part r NoOps) (suc r) c)
 loop_acts at count test st body step_part tests acts acts' zero r c ts ts' values vs vs' us le alike none next leave =
     Unseen (flat_state (task.Enter (loop_of test st body) ∷ ts) values vs us)

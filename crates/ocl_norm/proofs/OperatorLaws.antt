@@ -20,11 +20,11 @@ use Rattle.kir.specs.Machine.{state, Task, value, ops_tasks}
 use Rattle.kir.specs.Trees.{Operand, VariableOf, NumberOf, Ops}
 use Rattle.ocl_norm.specs.Operators.{calculated, truth_ops, unary_ops, less_ops, binary_ops, picked_ops, least_ops, greatest_ops, magnitude_ops}
 use Rattle.ocl_norm.proofs.WordLaws.{xor_ones, not_less, is_zero, is_some, same_bits, less, less_value, mask, mask_of, picked, sign_low, sign_high, negated, taken_off, is_negative, not_negative}
-use Rattle.ocl_norm.proofs.Relations.{FlatState, Along, Kept, kept_put, kept_on, IsUnder, under_more, value_kept, sets, calculates}
+use Rattle.ocl_norm.proofs.Relations.{FlatState, Along, SameBelow, kept_put, kept_on, IsUnder, under_more, value_kept, sets, calculates}
 
 -- all goes well once the variable d has this value, and those before it are what they were
 abbrev pub Holds : Setting → ℕ → FlatState → ℕ → ℕ → (ℕ → ℕ) → List Task → List ℕ → Type 0
-Holds at n s d x vs ts ns = (vs1 : ℕ → ℕ) → Kept d vs vs1 → vs1 d ≡ x → Along at n s (state ts vs1 ns)
+Holds at n s d x vs ts ns = (vs1 : ℕ → ℕ) → SameBelow d vs vs1 → vs1 d ≡ x → Along at n s (state ts vs1 ns)
 
 -- one operation
 pub once : (at : Setting) (n : ℕ) (s : FlatState) (d : ℕ) (op : Alu) (a b : Operand) (c : Ops) (ts : List Task) (vs : ℕ → ℕ) (ns : List ℕ) (x y z : ℕ)
@@ -100,7 +100,7 @@ picked_holds at n s a b d c ts vs ns x y which under under' word word' e e' at0 
     put_at_other (suc d) differing vs1 (suc (suc d)) (λ at. absurd (omega arith)) ∙ put_at_same (suc (suc d)) (mask which) vs in
     let a3 : value vs3 a ≡ x =
     value_put (suc d) a (suc d) (bit_and differing (mask which)) vs2 under (omega arith) ∙ value_put (suc d) a (suc d) differing vs1 under (omega arith) ∙ a1 in
-    let kept : Kept d vs vs4 =
+    let kept : SameBelow d vs vs4 =
     kept_on d d vs vs1 vs4 (omega arith) (kept_put d (suc (suc d)) (mask which) vs (omega arith))
     (kept_on d d vs1 vs2 vs4 (omega arith) (kept_put d (suc d) differing vs1 (omega arith))
     (kept_on d d vs2 vs3 vs4 (omega arith) (kept_put d (suc d) (bit_and differing (mask which)) vs2 (omega arith))

@@ -18,7 +18,7 @@ use Rattle.kir.specs.Trees.{Operand, VariableOf, NumberOf, Set, Calculate, Fit, 
 use Rattle.kir.specs.Weights.{operand_words, test_words, count_words}
 use Rattle.ocl_inline.specs.declared.trees.Binding.{Binding}
 use Rattle.ocl_inline.specs.declared.trees.Binding.TheVariants.{Variable as ToVariable, Dropped}
-use Rattle.ocl_norm.specs.Normal.{Part, bound_ops, load_ops, store_ops, restore_ops, given_ops}
+use Rattle.ocl_norm.specs.Normal.{Fragment, bound_ops, load_ops, store_ops, restore_ops, given_ops}
 use Rattle.ocl_norm.specs.Operators.{truth_ops, unary_ops, binary_ops, one_ops, two_ops}
 use Rattle.ocl_norm.specs.Rooms.{one_room}
 use Rattle.ocl_norm.specs.Standings.{Standing, Fixed, Named, Made, operand_at, copied, settled}
@@ -58,7 +58,7 @@ count_most (Declared k) = omega arith
 -- ---- operators
 
 -- operations that come to at most so many words, in front of others
-abbrev pub Adds : ℕ → Part → Type 0
+abbrev pub Adds : ℕ → Fragment → Type 0
 Adds w part = (d : ℕ) (c : Ops) → flagged_words (part d c) ≤ w + flagged_words c
 
 pub truth_adds : (a : Operand) → Adds 15 (truth_ops a)

@@ -35,16 +35,16 @@ pub record Alike (count bound : ℕ) (vs0 vs vs' : ℕ → ℕ) : Type 0 where
   pub frame : (k : ℕ) → count ≤ k → k < bound → vs' k ≡ vs0 k
 
 -- variables below a bound are what they were
-abbrev pub Kept : ℕ → (ℕ → ℕ) → (ℕ → ℕ) → Type 0
-Kept bound vs vs' = (k : ℕ) → k < bound → vs' k ≡ vs k
+abbrev pub SameBelow : ℕ → (ℕ → ℕ) → (ℕ → ℕ) → Type 0
+SameBelow bound vs vs' = (k : ℕ) → k < bound → vs' k ≡ vs k
 
-pub kept_same : (bound : ℕ) (vs : ℕ → ℕ) → Kept bound vs vs
+pub kept_same : (bound : ℕ) (vs : ℕ → ℕ) → SameBelow bound vs vs
 kept_same bound vs k below = refl
 
-pub kept_on : (few bound : ℕ) (vs vs' vs'' : ℕ → ℕ) → few ≤ bound → Kept few vs vs' → Kept bound vs' vs'' → Kept few vs vs''
+pub kept_on : (few bound : ℕ) (vs vs' vs'' : ℕ → ℕ) → few ≤ bound → SameBelow few vs vs' → SameBelow bound vs' vs'' → SameBelow few vs vs''
 kept_on few bound vs vs' vs'' le one other k below = other k (omega arith) ∙ one k below
 
-pub kept_put : (bound d x : ℕ) (vs : ℕ → ℕ) → bound ≤ d → Kept bound vs (put_at d x vs)
+pub kept_put : (bound d x : ℕ) (vs : ℕ → ℕ) → bound ≤ d → SameBelow bound vs (put_at d x vs)
 kept_put bound d x vs le k below = put_at_other d x vs k (λ e. absurd (omega arith))
 
 pub alike_self : (count bound : ℕ) (vs0 vs vs' : ℕ → ℕ) (bound' : ℕ) → Alike count bound vs0 vs vs' → Alike count bound' vs' vs vs'
@@ -63,7 +63,7 @@ pub alike_less : (count few bound : ℕ) (vs0 vs vs' : ℕ → ℕ) → few ≤ 
 alike_less count few bound vs0 vs vs' le alike = record { equal = alike.equal; words = alike.words; frame = λ k more less. alike.frame k more (omega arith) }
 
 -- variables from the bound on may change in the second
-pub alike_kept : (count bound few : ℕ) (vs0 vs vs' vs'' : ℕ → ℕ) → count ≤ bound → few ≤ bound → Kept bound vs' vs'' → Alike count few vs0 vs vs' → Alike count few vs0 vs vs''
+pub alike_kept : (count bound few : ℕ) (vs0 vs vs' vs'' : ℕ → ℕ) → count ≤ bound → few ≤ bound → SameBelow bound vs' vs'' → Alike count few vs0 vs vs' → Alike count few vs0 vs vs''
 alike_kept count bound few vs0 vs vs' vs'' le le' kept alike = record {
   equal = λ k below. kept k (omega arith) ∙ alike.equal k below;
   words = alike.words;
@@ -97,7 +97,7 @@ abbrev pub IsUnder : ℕ → Operand → Type 0
 IsUnder bound (VariableOf k) = k < bound
 IsUnder bound (NumberOf n) = Unit {0}
 
-pub value_kept : (bound : ℕ) (a : Operand) (vs vs' : ℕ → ℕ) → IsUnder bound a → Kept bound vs vs' → value vs' a ≡ value vs a
+pub value_kept : (bound : ℕ) (a : Operand) (vs vs' : ℕ → ℕ) → IsUnder bound a → SameBelow bound vs vs' → value vs' a ≡ value vs a
 value_kept bound (VariableOf k) vs vs' under kept = kept k under
 value_kept bound (NumberOf n) vs vs' under kept = refl
 

@@ -20,7 +20,7 @@ use Rattle.ocl_inline.specs.Trees.{FlatValue, NoFlat, SomeFlat, FlatExpr, Number
 use Rattle.ocl_inline.specs.declared.trees.Binding.{Binding}
 use Rattle.ocl_inline.specs.declared.trees.Binding.TheVariants.{Variable as ToVariable, Dropped}
 use Rattle.ocl_inline.proofs.Meetings.{met, met_append, met_counts, are_different, met_once}
-use Rattle.ocl_norm.specs.Normal.{Part, calls, right_calls, right_branches, pair_ops, bound_ops, load_ops, store_ops, restore_ops, combined_variable, assigned_variable, changed_element, assigned_element, given_ops, value_ops, builtin_ops, args_ops, right_ops, declared_ops, return_ops, loop_ops, stmt_ops, stmts_ops, normal_kernel}
+use Rattle.ocl_norm.specs.Normal.{Fragment, calls, right_calls, right_branches, pair_ops, bound_ops, load_ops, store_ops, restore_ops, combined_variable, assigned_variable, changed_element, assigned_element, given_ops, value_ops, builtin_ops, args_ops, right_ops, declared_ops, return_ops, loop_ops, stmt_ops, stmts_ops, normal_kernel}
 use Rattle.ocl_norm.specs.Operators.{truth_ops, unary_ops, binary_ops, one_ops, two_ops}
 use Rattle.ocl_norm.specs.Standings.{Standing, Named, standing, right_standing, operand_at, copied, held_at, above, settled}
 use Rattle.ocl_norm.proofs.InFront.{InFront, truth_in, unary_in, binary_in, one_in, two_in, copied_in, settled_in}
@@ -62,14 +62,14 @@ call_seen n body c = met_append n (sites body) (sites c)
 -- ---- parts
 
 -- A part in which the barrier stands at most so often, in front of others.
-abbrev pub Few : ℕ → ℕ → Part → Type 0
+abbrev pub Few : ℕ → ℕ → Fragment → Type 0
 Few n times part = (d : ℕ) (c : Ops) → seen n (part d c) ≤ times + seen n c
 
 -- and one that has none
-abbrev pub Without : ℕ → Part → Type 0
+abbrev pub Without : ℕ → Fragment → Type 0
 Without n part = (d : ℕ) (c : Ops) → seen n (part d c) ≡ seen n c
 
-more_few : (n times times' : ℕ) (part : Part) → times ≤ times' → Few n times part → Few n times' part
+more_few : (n times times' : ℕ) (part : Fragment) → times ≤ times' → Few n times part → Few n times' part
 more_few n times times' part le few d c = let h : seen n (part d c) ≤ times + seen n c = few d c in omega arith
 
 truth_seen : (n : ℕ) (a : Operand) → Without n (truth_ops a)
@@ -106,7 +106,7 @@ restore_seen : (n : ℕ) (checks : Bool) (array : ArrayRef) (elem : Elem) (pos :
 restore_seen n true array elem pos place value c = refl
 restore_seen n false array elem pos place value c = refl
 
-pair_seen : (n t t' : ℕ) (left : Part) (s : Standing) (right : Part) (s' : Standing) (calls : Bool) (join : Operand → Operand → ℕ → Ops → Ops) → Few n t left → Few n t' right
+pair_seen : (n t t' : ℕ) (left : Fragment) (s : Standing) (right : Fragment) (s' : Standing) (calls : Bool) (join : Operand → Operand → ℕ → Ops → Ops) → Few n t left → Few n t' right
     → ((a b : Operand) → Without n (join a b)) → Few n (t + t') (pair_ops left s right s' calls join)
 pair_seen n t t' left s right s' calls join one other joins d c =
     let y : Ops = join (held_at calls s d) (operand_at s' (above calls s d)) d c in
@@ -116,21 +116,21 @@ pair_seen n t t' left s right s' calls join one other joins d c =
     let h3 : seen n x ≤ t' + seen n y = other (above calls s d) y in
     let h4 : seen n y ≡ seen n c = joins (held_at calls s d) (operand_at s' (above calls s d)) d c in omega arith
 
-combined_variable_seen : (n t : ℕ) (op : BinOp) (unsigned : Bool) (variable : ℕ) (elem : Elem) (right : Part) (s : Standing) (calls : Bool) → Few n t right
+combined_variable_seen : (n t : ℕ) (op : BinOp) (unsigned : Bool) (variable : ℕ) (elem : Elem) (right : Fragment) (s : Standing) (calls : Bool) → Few n t right
     → Few n t (combined_variable op unsigned variable elem right s calls)
 combined_variable_seen n t op unsigned variable elem right s calls few d c =
     let x : Ops = AndOp (Fit variable elem (VariableOf d)) c in
     let h : seen n (pair_ops (λ first after. after) (Named variable) right s calls (binary_ops op unsigned) d x) ≤ 0 + t + seen n x =
     pair_seen n 0 t (λ first after. after) (Named variable) right s calls (binary_ops op unsigned) (λ first after. omega arith) few (binary_seen n op unsigned) d x in omega arith
 
-assigned_variable_seen : (n t : ℕ) (op : AssignOp) (unsigned : Bool) (variable : ℕ) (elem : Elem) (right : Part) (s : Standing) (calls : Bool) → Few n t right
+assigned_variable_seen : (n t : ℕ) (op : AssignOp) (unsigned : Bool) (variable : ℕ) (elem : Elem) (right : Fragment) (s : Standing) (calls : Bool) → Few n t right
     → Few n t (assigned_variable op unsigned variable elem right s calls)
 assigned_variable_seen n t assign.Set unsigned variable elem right s calls few d c = few d (AndOp (Fit variable elem (operand_at s d)) c)
 assigned_variable_seen n t (assign.With op) unsigned variable elem right s calls few d c = combined_variable_seen n t op unsigned variable elem right s calls few d c
 assigned_variable_seen n t assign.Up unsigned variable elem right s calls few d c = combined_variable_seen n t Add unsigned variable elem right s calls few d c
 assigned_variable_seen n t assign.Down unsigned variable elem right s calls few d c = combined_variable_seen n t Sub unsigned variable elem right s calls few d c
 
-changed_element_seen : (n t t' : ℕ) (op : BinOp) (unsigned : Bool) (array : ArrayRef) (elem : Elem) (pos : Pos) (place : Part) (p : Standing) (right : Part) (s : Standing)
+changed_element_seen : (n t t' : ℕ) (op : BinOp) (unsigned : Bool) (array : ArrayRef) (elem : Elem) (pos : Pos) (place : Fragment) (p : Standing) (right : Fragment) (s : Standing)
     (calls checks : Bool) → Few n t place → Few n t' right → Few n (t + t') (changed_element op unsigned array elem pos place p right s calls checks)
 changed_element_seen n t t' op unsigned array elem pos place p right s calls checks one other d c =
     let q : ℕ = above calls p d in
@@ -143,7 +143,7 @@ changed_element_seen n t t' op unsigned array elem pos place p right s calls che
     let h4 : seen n y ≡ seen n z = binary_seen n op unsigned (VariableOf q) (operand_at s (suc q)) q z in
     let h5 : seen n z ≡ seen n c = restore_seen n checks array elem pos (held_at calls p d) (VariableOf q) c in omega arith
 
-assigned_element_seen : (n t t' : ℕ) (op : AssignOp) (unsigned : Bool) (array : ArrayRef) (elem : Elem) (pos : Pos) (place : Part) (p : Standing) (right : Part) (s : Standing)
+assigned_element_seen : (n t t' : ℕ) (op : AssignOp) (unsigned : Bool) (array : ArrayRef) (elem : Elem) (pos : Pos) (place : Fragment) (p : Standing) (right : Fragment) (s : Standing)
     (calls checks : Bool) → Few n t place → Few n t' right → Few n (t + t') (assigned_element op unsigned array elem pos place p right s calls checks)
 assigned_element_seen n t t' assign.Set unsigned array elem pos place p right s calls checks one other d c =
     pair_seen n t t' place p right s calls (λ a b first after. store_ops array elem pos a b after) one other (λ a b first after. refl) d c

@@ -18,7 +18,7 @@ use Rattle.kir.specs.Machine.{state, Task, Do, value, ops_tasks, broken, continu
 use Rattle.kir.specs.Trees.{Operand, NumberOf, Set, Fit, Barrier, If, Break, Continue, Return, Ops, NoOps, AndOp}
 use Rattle.ocl_inline.specs.FlatTasks.{FlatTask, given_tasks, stmt_tasks, stmts_tasks}
 use Rattle.ocl_inline.specs.Trees.{FlatExpr, FlatStmt, CallStmtFlat, BarrierFlat, IfFlat, IfElseFlat, BreakFlat, ContinueFlat, ReturnFlat, NoFlat, SomeFlat, FlatStmts}
-use Rattle.ocl_norm.specs.Normal.{Part, given_ops, stmt_ops, stmts_ops}
+use Rattle.ocl_norm.specs.Normal.{Fragment, given_ops, stmt_ops, stmts_ops}
 use Rattle.ocl_norm.specs.Standings.{Standing, standing, operand_at}
 use Rattle.ocl_norm.proofs.ChoicesAlong.{ValueGoes, not_zero, suc_not_zero}
 use Rattle.ocl_norm.proofs.Relations.{FlatState, flat_state, Along, Alike, alike_self, alike_on, alike_less, alike_put, alike_kept, kept_put, sets, fits, takes_one, takes_other}
@@ -39,7 +39,7 @@ pub record Leaves (at : Setting) (count n r : ℕ) (ts : List FlatTask) (ts' : L
       → Along at n (flat.returned ts (flat_state xs (v ∷ values) vs1 us)) (returned ts' vs1' us)
 
 -- These tasks and these operations of a statement go along, where what follows does.
-abbrev pub Acts : Setting → ℕ → (List FlatTask → List FlatTask) → Part → Type 0
+abbrev pub Acts : Setting → ℕ → (List FlatTask → List FlatTask) → Fragment → Type 0
 Acts at count tasks part = (n r : ℕ) (c : Ops) (ts : List FlatTask) (ts' : List Task) (values : List ℕ) (vs vs' : ℕ → ℕ) (us : List ℕ) → count ≤ r
     → Alike count (suc r) vs' vs vs' → vs' r ≡ 0 → Behind at count n r ts (ops_tasks c ts') values vs' us → Leaves at count n r ts ts' values vs' us
     → Along at n (flat_state (tasks ts) values vs us) (state (ops_tasks (part r c) ts') vs' us)
@@ -97,7 +97,7 @@ result_kept count r vs' vs1 vs1' le alike none = alike.frame r le (omega arith) 
 pub nothing_acts : (at : Setting) (count : ℕ) → Acts at count (λ ts. ts) (λ r c. c)
 nothing_acts at count n r c ts ts' values vs vs' us le alike none next leave = next vs vs' alike
 
-pub acts_on : (at : Setting) (count : ℕ) (tasks : List FlatTask → List FlatTask) (part : Part) (tasks' : List FlatTask → List FlatTask) (part' : Part)
+pub acts_on : (at : Setting) (count : ℕ) (tasks : List FlatTask → List FlatTask) (part : Fragment) (tasks' : List FlatTask → List FlatTask) (part' : Fragment)
     → Skipped tasks' → Acts at count tasks part → Acts at count tasks' part' → Acts at count (λ ts. tasks (tasks' ts)) (λ r c. part r (part' r c))
 acts_on at count tasks part tasks' part' skips acts acts' n r c ts ts' values vs vs' us le alike none next leave =
     acts n r (part' r c) (tasks' ts) ts' values vs vs' us le alike none
@@ -119,7 +119,7 @@ assigns at count n r x elem a c ts ts' values vs' vs1 vs1' us v below alike e ne
     (fits at n (flat_state ts values (put_at x z vs1) us) x elem a (ops_tasks c ts') vs1' us v e
     (next (put_at x z vs1) (put_at x z vs1') (alike_put count (suc r) vs' vs1 vs1' x z below (fitted-lt elem v) alike)))
 
-pub assigned_acts : (at : Setting) (count : ℕ) (x : ℕ) (elem : Elem) (tasks : List FlatTask → List FlatTask) (part : Part) (s : Standing) (calls : Bool) → x < count
+pub assigned_acts : (at : Setting) (count : ℕ) (x : ℕ) (elem : Elem) (tasks : List FlatTask → List FlatTask) (part : Fragment) (s : Standing) (calls : Bool) → x < count
     → Gives at count tasks part s calls → Acts at count (λ ts. tasks (task.Assign x elem ∷ ts)) (λ r c. part (suc r) (AndOp (Fit x elem (operand_at s (suc r))) c))
 assigned_acts at count x elem tasks part s calls below gives n r c ts ts' values vs vs' us le alike none next leave =
     gives n (suc r) (AndOp (Fit x elem (operand_at s (suc r))) c) (task.Assign x elem ∷ ts) ts' values vs vs' us (omega arith) alike
@@ -147,7 +147,7 @@ barrier_acts at count site n r c ts ts' values vs vs' us le alike none next leav
 -- ---- branches
 
 -- behind the test one of the two is chosen
-branched : (at : Setting) (count : ℕ) (one : FlatStmt) (other : Option FlatStmt) (other_ops : Part) → StmtGoes at count one
+branched : (at : Setting) (count : ℕ) (one : FlatStmt) (other : Option FlatStmt) (other_ops : Fragment) → StmtGoes at count one
     → Acts at count (flat.optional stmt_tasks other) other_ops
     → (n r : ℕ) (a : Operand) (c : Ops) (ts : List FlatTask) (ts' : List Task) (values : List ℕ) (vs vs' : ℕ → ℕ) (us : List ℕ) (v : ℕ) → count ≤ r
     → Alike count (suc r) vs' vs vs' → vs' r ≡ 0 → value vs' a ≡ v → Behind at count n r ts (ops_tasks c ts') values vs' us → Leaves at count n r ts ts' values vs' us

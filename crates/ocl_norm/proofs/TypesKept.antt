@@ -19,7 +19,7 @@ use Rattle.kir.specs.Typing.{HasElem, IsWritten, AreTyped}
 use Rattle.ocl_inline.specs.Trees.{FlatValue, NoFlat, SomeFlat, FlatExpr, NumberFlat, VariableFlat, UnaryFlat, BinaryFlat, BothFlat, EitherFlat, ChooseFlat, CastFlat, LoadFlat, CallFlat, LostFlat, BuiltinFlat, ParenFlat, FlatArgs, NoFlatArgs, NumberArg, NamedArg, FlatStmt, DeclareFlat, LocalArrayFlat, SetVariableFlat, SetElementFlat, CallStmtFlat, BarrierFlat, IfFlat, IfElseFlat, WhileFlat, DoFlat, ForFlat, BreakFlat, ContinueFlat, ReturnFlat, BlockFlat, EmptyFlat, FlatStmts, NoFlats, AndFlat, FlatKernel}
 use Rattle.ocl_inline.specs.declared.trees.Binding.{Binding}
 use Rattle.ocl_inline.specs.declared.trees.Binding.TheVariants.{Variable as ToVariable, Dropped}
-use Rattle.ocl_norm.specs.Normal.{Part, calls, right_calls, right_branches, pair_ops, bound_ops, load_ops, store_ops, restore_ops, combined_variable, assigned_variable, combined_element, changed_element, assigned_element, given_ops, value_ops, builtin_ops, args_ops, right_ops, declared_ops, return_ops, loop_ops, stmt_ops, stmts_ops, normal_kernel}
+use Rattle.ocl_norm.specs.Normal.{Fragment, calls, right_calls, right_branches, pair_ops, bound_ops, load_ops, store_ops, restore_ops, combined_variable, assigned_variable, combined_element, changed_element, assigned_element, given_ops, value_ops, builtin_ops, args_ops, right_ops, declared_ops, return_ops, loop_ops, stmt_ops, stmts_ops, normal_kernel}
 use Rattle.ocl_norm.specs.Operators.{truth_ops, unary_ops, binary_ops, one_ops, two_ops}
 use Rattle.ocl_inline.specs.Proper.{IsTypedKernel, TypedArgs, TypedExpr, TypedStmt, TypedStmts, TypedValue}
 use Rattle.ocl_norm.specs.Standings.{Standing, Named, standing, right_standing, operand_at, copied, held_at, above, settled}
@@ -55,10 +55,10 @@ restore_typed ps ls false array elem pos place value c has written typed = ((has
 -- ---- parts
 
 -- A part that is typed keeps what follows so.
-abbrev pub PartTyped : List Param → List LocalArray → Part → Type 0
+abbrev pub PartTyped : List Param → List LocalArray → Fragment → Type 0
 PartTyped ps ls part = (d : ℕ) (c : Ops) → AreTyped ps ls c → AreTyped ps ls (part d c)
 
-pair_typed : (ps : List Param) (ls : List LocalArray) (left : Part) (s : Standing) (right : Part) (s' : Standing) (calls : Bool) (join : Operand → Operand → ℕ → Ops → Ops)
+pair_typed : (ps : List Param) (ls : List LocalArray) (left : Fragment) (s : Standing) (right : Fragment) (s' : Standing) (calls : Bool) (join : Operand → Operand → ℕ → Ops → Ops)
     → PartTyped ps ls left → PartTyped ps ls right → ((a b : Operand) → PartTyped ps ls (join a b)) → PartTyped ps ls (pair_ops left s right s' calls join)
 pair_typed ps ls left s right s' calls join one other joins d c typed =
     let y : Ops = join (held_at calls s d) (operand_at s' (above calls s d)) d c in
@@ -80,13 +80,13 @@ settled_typed ps ls s d c typed = settled_in (AreTyped ps ls) d (front_typed ps 
 
 -- ---- assignments
 
-combined_variable_typed : (ps : List Param) (ls : List LocalArray) (op : BinOp) (unsigned : Bool) (variable : ℕ) (elem : Elem) (right : Part) (s : Standing) (calls : Bool)
+combined_variable_typed : (ps : List Param) (ls : List LocalArray) (op : BinOp) (unsigned : Bool) (variable : ℕ) (elem : Elem) (right : Fragment) (s : Standing) (calls : Bool)
     → PartTyped ps ls right → PartTyped ps ls (combined_variable op unsigned variable elem right s calls)
 combined_variable_typed ps ls op unsigned variable elem right s calls part d c typed =
     pair_typed ps ls (λ first after. after) (Named variable) right s calls (binary_ops op unsigned) (λ first after t. t) part (binary_typed ps ls op unsigned) d
     (AndOp (Fit variable elem (VariableOf d)) c) (tt, typed)
 
-assigned_variable_typed : (ps : List Param) (ls : List LocalArray) (op : AssignOp) (unsigned : Bool) (variable : ℕ) (elem : Elem) (right : Part) (s : Standing) (calls : Bool)
+assigned_variable_typed : (ps : List Param) (ls : List LocalArray) (op : AssignOp) (unsigned : Bool) (variable : ℕ) (elem : Elem) (right : Fragment) (s : Standing) (calls : Bool)
     → PartTyped ps ls right → PartTyped ps ls (assigned_variable op unsigned variable elem right s calls)
 assigned_variable_typed ps ls assign.Set unsigned variable elem right s calls part d c typed = part d (AndOp (Fit variable elem (operand_at s d)) c) (tt, typed)
 assigned_variable_typed ps ls (assign.With op) unsigned variable elem right s calls part d c typed =
@@ -94,14 +94,14 @@ assigned_variable_typed ps ls (assign.With op) unsigned variable elem right s ca
 assigned_variable_typed ps ls assign.Up unsigned variable elem right s calls part d c typed = combined_variable_typed ps ls Add unsigned variable elem right s calls part d c typed
 assigned_variable_typed ps ls assign.Down unsigned variable elem right s calls part d c typed = combined_variable_typed ps ls Sub unsigned variable elem right s calls part d c typed
 
-combined_element_typed : (ps : List Param) (ls : List LocalArray) (op : BinOp) (unsigned : Bool) (array : ArrayRef) (elem : Elem) (pos : Pos) (right : Part) (s : Standing) (checks : Bool)
+combined_element_typed : (ps : List Param) (ls : List LocalArray) (op : BinOp) (unsigned : Bool) (array : ArrayRef) (elem : Elem) (pos : Pos) (right : Fragment) (s : Standing) (checks : Bool)
     (place : Operand) → HasElem ps ls array elem → IsWritten ps array → PartTyped ps ls right → PartTyped ps ls (combined_element op unsigned array elem pos right s checks place)
 combined_element_typed ps ls op unsigned array elem pos right s checks place has written part t c typed =
     let z : Ops = restore_ops checks array elem pos place (VariableOf t) c in
     let y : Ops = binary_ops op unsigned (VariableOf t) (operand_at s (suc t)) t z in
     (tt, (has, part (suc t) y (binary_typed ps ls op unsigned (VariableOf t) (operand_at s (suc t)) t z (restore_typed ps ls checks array elem pos place (VariableOf t) c has written typed))))
 
-changed_element_typed : (ps : List Param) (ls : List LocalArray) (op : BinOp) (unsigned : Bool) (array : ArrayRef) (elem : Elem) (pos : Pos) (place : Part) (p : Standing) (right : Part)
+changed_element_typed : (ps : List Param) (ls : List LocalArray) (op : BinOp) (unsigned : Bool) (array : ArrayRef) (elem : Elem) (pos : Pos) (place : Fragment) (p : Standing) (right : Fragment)
     (s : Standing) (calls checks : Bool) → HasElem ps ls array elem → IsWritten ps array → PartTyped ps ls place → PartTyped ps ls right
     → PartTyped ps ls (changed_element op unsigned array elem pos place p right s calls checks)
 changed_element_typed ps ls op unsigned array elem pos place p right s calls checks has written one other d c typed =
@@ -110,7 +110,7 @@ changed_element_typed ps ls op unsigned array elem pos place p right s calls che
     (copied_in (AreTyped ps ls) d (front_typed ps ls d) calls p x
     (combined_element_typed ps ls op unsigned array elem pos right s checks (held_at calls p d) has written other (above calls p d) c typed))
 
-assigned_element_typed : (ps : List Param) (ls : List LocalArray) (op : AssignOp) (unsigned : Bool) (array : ArrayRef) (elem : Elem) (pos : Pos) (place : Part) (p : Standing) (right : Part)
+assigned_element_typed : (ps : List Param) (ls : List LocalArray) (op : AssignOp) (unsigned : Bool) (array : ArrayRef) (elem : Elem) (pos : Pos) (place : Fragment) (p : Standing) (right : Fragment)
     (s : Standing) (calls checks : Bool) → HasElem ps ls array elem → IsWritten ps array → PartTyped ps ls place → PartTyped ps ls right
     → PartTyped ps ls (assigned_element op unsigned array elem pos place p right s calls checks)
 assigned_element_typed ps ls assign.Set unsigned array elem pos place p right s calls checks has written one other d c typed =

@@ -20,11 +20,11 @@ use Rattle.step_machine.specs.Sims.{FirstGoes}
 use Rattle.kir.specs.Machine.{state, Task, value, ops_tasks}
 use Rattle.kir.specs.Trees.{Operand, VariableOf, Fit, Ops, AndOp}
 use Rattle.ocl_inline.specs.FlatTasks.{FlatTask, flat_parts}
-use Rattle.ocl_norm.specs.Normal.{Part, pair_ops}
+use Rattle.ocl_norm.specs.Normal.{Fragment, pair_ops}
 use Rattle.ocl_norm.specs.Operators.{unary_ops, binary_ops}
 use Rattle.ocl_norm.specs.Standings.{Standing, Fixed, Named, Made, operand_at, copied, held_at, above}
 use Rattle.ocl_norm.proofs.OperatorLaws.{Holds, unary_holds, binary_holds}
-use Rattle.ocl_norm.proofs.Relations.{FlatState, flat_state, Along, Alike, Kept, kept_same, kept_put, alike_self, alike_on, alike_kept, IsUnder, under_more, sets, fits}
+use Rattle.ocl_norm.proofs.Relations.{FlatState, flat_state, Along, Alike, SameBelow, kept_same, kept_put, alike_self, alike_on, alike_kept, IsUnder, under_more, sets, fits}
 
 -- ---- values of operators are words
 
@@ -101,7 +101,7 @@ above_to false Made d = omega arith
 
 -- These tasks and these operations give the same value, and go along where what follows does for every value. Where no call is among them
 -- the kernel's variables stay.
-abbrev pub Gives : Setting → ℕ → (List FlatTask → List FlatTask) → Part → Standing → Bool → Type 0
+abbrev pub Gives : Setting → ℕ → (List FlatTask → List FlatTask) → Fragment → Standing → Bool → Type 0
 Gives at count tasks part s calls = (n d : ℕ) (c : Ops) (ts : List FlatTask) (ts' : List Task) (values : List ℕ) (vs vs' : ℕ → ℕ) (us : List ℕ) → count ≤ d
     → Alike count d vs' vs vs'
     → ((v : ℕ) (vs1 vs1' : ℕ → ℕ) → Alike count d vs' vs1 vs1' → (calls ≡ false → vs1 ≡ vs) → value vs1' (operand_at s d) ≡ v → v < 2 ^ 32
@@ -120,7 +120,7 @@ variable_gives at count k below n d c ts ts' values vs vs' us le alike next =
 
 -- ---- one part
 
-pub unary_gives : (at : Setting) (count : ℕ) (op : UnOp) (tasks : List FlatTask → List FlatTask) (part : Part) (s : Standing) (calls : Bool) → Gives at count tasks part s calls
+pub unary_gives : (at : Setting) (count : ℕ) (op : UnOp) (tasks : List FlatTask → List FlatTask) (part : Fragment) (s : Standing) (calls : Bool) → Gives at count tasks part s calls
     → Gives at count (λ ts. tasks (task.Unary op ∷ ts)) (λ d c. part d (unary_ops op (operand_at s d) d c)) Made calls
 unary_gives at count op tasks part s calls gives n d c ts ts' values vs vs' us le alike next =
     gives n d (unary_ops op (operand_at s d) d c) (task.Unary op ∷ ts) ts' values vs vs' us le alike
@@ -130,7 +130,7 @@ unary_gives at count op tasks part s calls gives n d c ts ts' values vs vs' us l
     (unary_holds at n (flat_state ts (unary_value op v ∷ values) vs1 us) op (operand_at s d) d c ts' vs1' us v e
     (λ vs2' kept at2. next (unary_value op v) vs1 vs2' (alike_kept count d d vs' vs1 vs1' vs2' le (omega arith) kept a) same at2 (unary_word op v word))))
 
-pub cast_gives : (at : Setting) (count : ℕ) (elem : Elem) (tasks : List FlatTask → List FlatTask) (part : Part) (s : Standing) (calls : Bool) → Gives at count tasks part s calls
+pub cast_gives : (at : Setting) (count : ℕ) (elem : Elem) (tasks : List FlatTask → List FlatTask) (part : Fragment) (s : Standing) (calls : Bool) → Gives at count tasks part s calls
     → Gives at count (λ ts. tasks (task.Fit elem ∷ ts)) (λ d c. part d (AndOp (Fit d elem (operand_at s d)) c)) Made calls
 cast_gives at count elem tasks part s calls gives n d c ts ts' values vs vs' us le alike next =
     gives n d (AndOp (Fit d elem (operand_at s d)) c) (task.Fit elem ∷ ts) ts' values vs vs' us le alike
@@ -150,7 +150,7 @@ Stays count calls s d v vs1 vs2' = (vs3 vs3' : ℕ → ℕ) → Alike count (abo
 
 pub holds_it : (at : Setting) (count n : ℕ) (st : FlatState) (calls : Bool) (s : Standing) (d : ℕ) (c : Ops) (ts' : List Task) (vs1 vs1' : ℕ → ℕ) (ns : List ℕ) (v : ℕ) → count ≤ d
     → IsStanding count s → ((k : ℕ) → k < count → vs1' k ≡ vs1 k) → value vs1' (operand_at s d) ≡ v
-    → ((vs2' : ℕ → ℕ) → Kept d vs1' vs2' → Stays count calls s d v vs1 vs2' → Along at n st (state (ops_tasks c ts') vs2' ns))
+    → ((vs2' : ℕ → ℕ) → SameBelow d vs1' vs2' → Stays count calls s d v vs1 vs2' → Along at n st (state (ops_tasks c ts') vs2' ns))
     → Along at n st (state (ops_tasks (copied calls s d c) ts') vs1' ns)
 holds_it at count n st true (Fixed m) d c ts' vs1 vs1' ns v le stands equal e next = next vs1' (kept_same d vs1') (λ vs3 vs3' b un. e)
 holds_it at count n st false (Fixed m) d c ts' vs1 vs1' ns v le stands equal e next = next vs1' (kept_same d vs1') (λ vs3 vs3' b un. e)
@@ -169,8 +169,8 @@ BehindPair at count s calls s' calls' n d c ts ts' values vs vs' us =
     → value vs1' (operand_at s' (above calls' s d)) ≡ w → v < 2 ^ 32 → w < 2 ^ 32
     → Along at n (flat_state ts (w ∷ v ∷ values) vs1 us) (state (ops_tasks c ts') vs1' us)
 
-pub pair_goes : (at : Setting) (count : ℕ) (tasks : List FlatTask → List FlatTask) (part : Part) (s : Standing) (calls : Bool)
-    (tasks' : List FlatTask → List FlatTask) (part' : Part) (s' : Standing) (calls' : Bool) → IsStanding count s → Gives at count tasks part s calls → Gives at count tasks' part' s' calls'
+pub pair_goes : (at : Setting) (count : ℕ) (tasks : List FlatTask → List FlatTask) (part : Fragment) (s : Standing) (calls : Bool)
+    (tasks' : List FlatTask → List FlatTask) (part' : Fragment) (s' : Standing) (calls' : Bool) → IsStanding count s → Gives at count tasks part s calls → Gives at count tasks' part' s' calls'
     → (n d : ℕ) (c : Ops) (ts : List FlatTask) (ts' : List Task) (values : List ℕ) (vs vs' : ℕ → ℕ) (us : List ℕ) → count ≤ d → Alike count d vs' vs vs'
     → BehindPair at count s calls s' calls' n d c ts ts' values vs vs' us
     → Along at n (flat_state (tasks (tasks' ts)) values vs us) (state (ops_tasks (part d (copied calls' s d (part' (above calls' s d) c))) ts') vs' us)
@@ -195,7 +195,7 @@ not_second true b e = absurd (true≢false e)
 not_second false b e = e
 
 -- a value that may change the kernel's variables in more cases
-pub gives_more : (at : Setting) (count : ℕ) (tasks : List FlatTask → List FlatTask) (part : Part) (s : Standing) (calls calls' : Bool) → (calls' ≡ false → calls ≡ false)
+pub gives_more : (at : Setting) (count : ℕ) (tasks : List FlatTask → List FlatTask) (part : Fragment) (s : Standing) (calls calls' : Bool) → (calls' ≡ false → calls ≡ false)
     → Gives at count tasks part s calls → Gives at count tasks part s calls'
 gives_more at count tasks part s calls calls' fewer gives n d c ts ts' values vs vs' us le alike next =
     gives n d c ts ts' values vs vs' us le alike (λ v vs1 vs1' a same e word. next v vs1 vs1' a (λ none. same (fewer none)) e word)
@@ -215,8 +215,8 @@ abbrev pub MakesWords : (ℕ → ℕ → ℕ) → Type 0
 MakesWords f = (x y : ℕ) → x < 2 ^ 32 → y < 2 ^ 32 → f x y < 2 ^ 32
 
 pub pair_gives : (at : Setting) (count : ℕ) (t : FlatTask) (join : Operand → Operand → ℕ → Ops → Ops) (f : ℕ → ℕ → ℕ) → Joins at t f → Computes at join f → MakesWords f
-    → (tasks : List FlatTask → List FlatTask) (part : Part) (s : Standing) (calls : Bool)
-    (tasks' : List FlatTask → List FlatTask) (part' : Part) (s' : Standing) (calls' : Bool) → IsStanding count s → IsStanding count s'
+    → (tasks : List FlatTask → List FlatTask) (part : Fragment) (s : Standing) (calls : Bool)
+    (tasks' : List FlatTask → List FlatTask) (part' : Fragment) (s' : Standing) (calls' : Bool) → IsStanding count s → IsStanding count s'
     → Gives at count tasks part s calls → Gives at count tasks' part' s' calls'
     → Gives at count (λ ts. tasks (tasks' (t ∷ ts))) (pair_ops part s part' s' calls' join) Made (calls || calls')
 pair_gives at count t join f joins computes words tasks part s calls tasks' part' s' calls' stands stands' gives gives' n d c ts ts' values vs vs' us le alike next =
@@ -237,8 +237,8 @@ pair_gives at count t join f joins computes words tasks part s calls tasks' part
 pub binary_computes : (at : Setting) (op : BinOp) (unsigned : Bool) → Computes at (binary_ops op unsigned) (binary_value op unsigned)
 binary_computes at op unsigned n st a b d c ts vs ns x y under under' word word' e e' next = binary_holds at n st op unsigned a b d c ts vs ns x y e e' next
 
-pub binary_gives : (at : Setting) (count : ℕ) (op : BinOp) (unsigned : Bool) (tasks : List FlatTask → List FlatTask) (part : Part) (s : Standing) (calls : Bool)
-    (tasks' : List FlatTask → List FlatTask) (part' : Part) (s' : Standing) (calls' : Bool) → IsStanding count s → IsStanding count s'
+pub binary_gives : (at : Setting) (count : ℕ) (op : BinOp) (unsigned : Bool) (tasks : List FlatTask → List FlatTask) (part : Fragment) (s : Standing) (calls : Bool)
+    (tasks' : List FlatTask → List FlatTask) (part' : Fragment) (s' : Standing) (calls' : Bool) → IsStanding count s → IsStanding count s'
     → Gives at count tasks part s calls → Gives at count tasks' part' s' calls'
     → Gives at count (λ ts. tasks (tasks' (task.Binary op unsigned ∷ ts))) (pair_ops part s part' s' calls' (binary_ops op unsigned)) Made (calls || calls')
 binary_gives at count op unsigned tasks part s calls tasks' part' s' calls' stands stands' gives gives' =

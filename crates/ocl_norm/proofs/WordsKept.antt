@@ -18,7 +18,7 @@ use Rattle.kir.specs.Weights.{operand_words, test_words}
 use Rattle.ocl_inline.specs.FlatMeasures.{flat_expr_nodes, flat_value_nodes, flat_args_nodes, flat_stmt_nodes, flat_nodes, flat_expr_control, flat_value_control, flat_args_control, flat_stmt_control, flat_control, flat_expr_calls, flat_value_calls, flat_args_calls, flat_stmt_calls, flat_calls}
 use Rattle.ocl_inline.specs.Trees.{FlatValue, NoFlat, SomeFlat, FlatExpr, NumberFlat, VariableFlat, UnaryFlat, BinaryFlat, BothFlat, EitherFlat, ChooseFlat, CastFlat, LoadFlat, CallFlat, LostFlat, BuiltinFlat, ParenFlat, FlatArgs, NoFlatArgs, NumberArg, NamedArg, FlatStmt, DeclareFlat, LocalArrayFlat, SetVariableFlat, SetElementFlat, CallStmtFlat, BarrierFlat, IfFlat, IfElseFlat, WhileFlat, DoFlat, ForFlat, BreakFlat, ContinueFlat, ReturnFlat, BlockFlat, EmptyFlat, FlatStmts, NoFlats, AndFlat, FlatKernel}
 use Rattle.ocl_inline.specs.declared.trees.Binding.{Binding}
-use Rattle.ocl_norm.specs.Normal.{Part, calls, right_calls, right_branches, pair_ops, bound_ops, load_ops, store_ops, restore_ops, combined_variable, assigned_variable, changed_element, assigned_element, given_ops, value_ops, builtin_ops, args_ops, right_ops, loop_ops, stmt_ops, stmts_ops, normal_kernel}
+use Rattle.ocl_norm.specs.Normal.{Fragment, calls, right_calls, right_branches, pair_ops, bound_ops, load_ops, store_ops, restore_ops, combined_variable, assigned_variable, changed_element, assigned_element, given_ops, value_ops, builtin_ops, args_ops, right_ops, loop_ops, stmt_ops, stmts_ops, normal_kernel}
 use Rattle.ocl_norm.specs.Operators.{truth_ops, unary_ops, binary_ops, one_ops, two_ops}
 use Rattle.ocl_norm.specs.Rooms.{one_room, two_room, pair_room, assigned_room, value_room, args_room, right_room, stmt_room, stmts_room}
 use Rattle.ocl_norm.specs.Standings.{Standing, Fixed, Named, Made, standing, right_standing, operand_at, copied, held_at, above, settled}
@@ -40,7 +40,7 @@ allowed e = 38 * flat_expr_nodes e
 abbrev pub ExprWords : FlatExpr → Type 0
 ExprWords e = (d : ℕ) (c : Ops) → flagged_words (value_ops e d c) + taken e + 16 ≤ allowed e + flagged_words c
 
-behind_words : (e : FlatExpr) → ExprWords e → (part : Part) (w : ℕ) → Adds w part → (d : ℕ) (c : Ops)
+behind_words : (e : FlatExpr) → ExprWords e → (part : Fragment) (w : ℕ) → Adds w part → (d : ℕ) (c : Ops)
     → flagged_words (value_ops e d (part d c)) + taken e + 16 ≤ allowed e + w + flagged_words c
 behind_words e words part w adds d c =
     let h : flagged_words (value_ops e d (part d c)) + taken e + 16 ≤ allowed e + flagged_words (part d c) = words d (part d c) in
@@ -51,7 +51,7 @@ made_copied true d c = omega arith
 made_copied false d c = omega arith
 
 -- What follows may need more where the value is a number or a variable of the kernel.
-ends_words : (e : FlatExpr) → ExprWords e → (f : Standing → Part) (w : ℕ) → Adds w (f Made) → ((n : ℕ) → Adds (w + 22) (f (Fixed n))) → ((k : ℕ) → Adds (w + 22) (f (Named k)))
+ends_words : (e : FlatExpr) → ExprWords e → (f : Standing → Fragment) (w : ℕ) → Adds w (f Made) → ((n : ℕ) → Adds (w + 22) (f (Fixed n))) → ((k : ℕ) → Adds (w + 22) (f (Named k)))
     → (d : ℕ) (c : Ops) → flagged_words (value_ops e d (f (standing e) d c)) + taken e + 16 ≤ allowed e + w + flagged_words c
 ends_words (NumberFlat n unsigned) words f w made fixed named d c =
     let h : flagged_words (f (Fixed n) d c) ≤ w + 22 + flagged_words c = fixed n d c in omega arith

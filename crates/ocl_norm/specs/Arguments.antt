@@ -4,7 +4,7 @@ use Rattle.ocl_program.specs.declared.exprs.Builtin.{Builtin}
 use Rattle.ocl_program.specs.declared.exprs.Builtin.TheVariants.{Min, Max}
 use Rattle.kir.specs.Trees.{VariableOf, NumberOf, Id, AndOp}
 use Rattle.ocl_inline.specs.Trees.{FlatExpr, FlatArgs, NoFlatArgs, NumberArg, NamedArg}
-use Rattle.ocl_norm.specs.Normal.{Part, calls, pair_ops, value_ops}
+use Rattle.ocl_norm.specs.Normal.{Fragment, calls, pair_ops, value_ops}
 use Rattle.ocl_norm.specs.Operators.{one_ops, two_ops}
 use Rattle.ocl_norm.specs.Rooms.{one_room, pair_room, two_room, value_room}
 use Rattle.ocl_norm.specs.Standings.{operand_at, standing}
@@ -42,7 +42,7 @@ values_by (held.Two x y) = TwoValues (expr_of x.now) (expr_of y.now)
 values_by (held.Three x y z) = ThreeValues (expr_of x.now) (expr_of y.now) (expr_of z.now)
 
 -- what a built-in function of these comes to, and how many variables it uses
-abbrev pub function_ops : Builtin → Bool → Values → Part
+abbrev pub function_ops : Builtin → Bool → Values → Fragment
 function_ops which unsigned NoValue d c = AndOp (Id d which (NumberOf 0)) c
 function_ops which unsigned (OneValue x) d c = value_ops x d (one_ops which unsigned (operand_at (standing x) d) d c)
 function_ops which unsigned (TwoValues x y) d c = pair_ops (value_ops x) (standing x) (value_ops y) (standing y) (calls y) (two_ops which unsigned) d c

@@ -23,11 +23,11 @@ use Rattle.ocl_norm.specs.Standings.{Standing, Named, standing, right_standing, 
 -- ---- two parts, the left one first
 
 -- Operations of a part, from its first variable on and in front of others.
-abbrev pub Part : Type 0
-Part = ℕ → Ops → Ops
+abbrev pub Fragment : Type 0
+Fragment = ℕ → Ops → Ops
 
 -- the left value is held while the right part is evaluated, and both are used
-abbrev pub pair_ops : Part → Standing → Part → Standing → Bool → (Operand → Operand → ℕ → Ops → Ops) → Part
+abbrev pub pair_ops : Fragment → Standing → Fragment → Standing → Bool → (Operand → Operand → ℕ → Ops → Ops) → Fragment
 pair_ops left s right s' calls join d c = left d (copied calls s d (right (above calls s d) (join (held_at calls s d) (operand_at s' (above calls s d)) d c)))
 
 -- ---- parts of statements
@@ -50,27 +50,27 @@ restore_ops true array elem pos place value c = store_ops array elem pos place v
 restore_ops false array elem pos place value c = AndOp (Store array elem place value) c
 
 -- The new value of a variable, whose value before is the left side of the operator.
-abbrev pub combined_variable : BinOp → Bool → ℕ → Elem → Part → Standing → Bool → Part
+abbrev pub combined_variable : BinOp → Bool → ℕ → Elem → Fragment → Standing → Bool → Fragment
 combined_variable op unsigned variable elem right s calls d c =
     pair_ops (λ first after. after) (Named variable) right s calls (binary_ops op unsigned) d (AndOp (Fit variable elem (VariableOf d)) c)
 
-abbrev pub assigned_variable : AssignOp → Bool → ℕ → Elem → Part → Standing → Bool → Part
+abbrev pub assigned_variable : AssignOp → Bool → ℕ → Elem → Fragment → Standing → Bool → Fragment
 assigned_variable assign.Set unsigned variable elem right s calls d c = right d (AndOp (Fit variable elem (operand_at s d)) c)
 assigned_variable (assign.With op) unsigned variable elem right s calls d c = combined_variable op unsigned variable elem right s calls d c
 assigned_variable assign.Up unsigned variable elem right s calls d c = combined_variable Add unsigned variable elem right s calls d c
 assigned_variable assign.Down unsigned variable elem right s calls d c = combined_variable Sub unsigned variable elem right s calls d c
 
 -- The new value of the element at `place`, with its value before from the variable t on.
-abbrev pub combined_element : BinOp → Bool → ArrayRef → Elem → Pos → Part → Standing → Bool → Operand → Part
+abbrev pub combined_element : BinOp → Bool → ArrayRef → Elem → Pos → Fragment → Standing → Bool → Operand → Fragment
 combined_element op unsigned array elem pos right s checks place t c =
     load_ops array elem pos place t
     (right (suc t) (binary_ops op unsigned (VariableOf t) (operand_at s (suc t)) t (restore_ops checks array elem pos place (VariableOf t) c)))
 
-abbrev pub changed_element : BinOp → Bool → ArrayRef → Elem → Pos → Part → Standing → Part → Standing → Bool → Bool → Part
+abbrev pub changed_element : BinOp → Bool → ArrayRef → Elem → Pos → Fragment → Standing → Fragment → Standing → Bool → Bool → Fragment
 changed_element op unsigned array elem pos place p right s calls checks d c =
     place d (copied calls p d (combined_element op unsigned array elem pos right s checks (held_at calls p d) (above calls p d) c))
 
-abbrev pub assigned_element : AssignOp → Bool → ArrayRef → Elem → Pos → Part → Standing → Part → Standing → Bool → Bool → Part
+abbrev pub assigned_element : AssignOp → Bool → ArrayRef → Elem → Pos → Fragment → Standing → Fragment → Standing → Bool → Bool → Fragment
 assigned_element assign.Set unsigned array elem pos place p right s calls checks d c =
     pair_ops place p right s calls (λ a b first after. store_ops array elem pos a b after) d c
 assigned_element (assign.With op) unsigned array elem pos place p right s calls checks d c =
@@ -89,7 +89,7 @@ given_ops (Value elem) a result c = AndOp (Fit result elem a) c
 
 abbrev mutual
   -- an expression: its value stands where `standing` says, and no variable between the kernel's and the first one changes
-  pub value_ops : FlatExpr → Part
+  pub value_ops : FlatExpr → Fragment
   value_ops (NumberFlat n unsigned) d c = c
   value_ops (VariableFlat k) d c = c
   value_ops (UnaryFlat op part) d c = value_ops part d (unary_ops op (operand_at (standing part) d) d c)
@@ -111,7 +111,7 @@ abbrev mutual
   value_ops (ParenFlat part) d c = value_ops part d c
 
   -- a built-in function: of `clamp` the greater of the first two is taken before the third is evaluated
-  pub builtin_ops : Builtin → Bool → FlatArgs → Part
+  pub builtin_ops : Builtin → Bool → FlatArgs → Fragment
   builtin_ops which unsigned (NumberArg x b NoFlatArgs) d c = value_ops x d (one_ops which unsigned (operand_at (standing x) d) d c)
   builtin_ops which unsigned (NumberArg x b (NumberArg y b' NoFlatArgs)) d c =
       pair_ops (value_ops x) (standing x) (value_ops y) (standing y) (calls y) (two_ops which unsigned) d c
@@ -121,22 +121,22 @@ abbrev mutual
   builtin_ops which unsigned other d c = AndOp (Id d which (NumberOf 0)) c
 
   -- each argument's value, bound before the next one is evaluated
-  pub args_ops : FlatArgs → Part
+  pub args_ops : FlatArgs → Fragment
   args_ops NoFlatArgs d c = c
   args_ops (NumberArg e binding more) d c = value_ops e d (bound_ops binding (operand_at (standing e) d) (args_ops more d c))
   args_ops (NamedArg array more) d c = args_ops more d c
 
-  pub right_ops : FlatValue → Part
+  pub right_ops : FlatValue → Fragment
   right_ops NoFlat d c = c
   right_ops (SomeFlat e) d c = value_ops e d c
 
   -- a variable is 0, and then it has the value that is written
-  pub declared_ops : ℕ → Elem → FlatValue → Part
+  pub declared_ops : ℕ → Elem → FlatValue → Fragment
   declared_ops variable elem NoFlat d c = AndOp (Set variable (NumberOf 0)) c
   declared_ops variable elem (SomeFlat e) d c = AndOp (Set variable (NumberOf 0)) (value_ops e d (AndOp (Fit variable elem (operand_at (standing e) d)) c))
 
   -- the variable `result`, which is 0 at first, has what the call gives back
-  pub return_ops : Gives → FlatValue → Part
+  pub return_ops : Gives → FlatValue → Fragment
   return_ops gives NoFlat result c = AndOp Return c
   return_ops gives (SomeFlat e) result c = value_ops e (suc result) (given_ops gives (operand_at (standing e) (suc result)) result (AndOp Return c))
 
@@ -146,7 +146,7 @@ abbrev mutual
   loop_ops (SomeFlat test) body step d c = AndOp (Loop (value_ops test d NoOps) (operand_at (standing test) d) body step) c
 
   -- A statement in a call whose result is the variable `result`; those behind it are free.
-  pub stmt_ops : FlatStmt → Part
+  pub stmt_ops : FlatStmt → Fragment
   stmt_ops (DeclareFlat variable elem value) result c = declared_ops variable elem value (suc result) c
   stmt_ops (LocalArrayFlat array count) result c = c
   stmt_ops (SetVariableFlat variable elem op unsigned value) result c =
@@ -173,7 +173,7 @@ abbrev mutual
   stmt_ops (BlockFlat items) result c = stmts_ops items result c
   stmt_ops EmptyFlat result c = c
 
-  pub stmts_ops : FlatStmts → Part
+  pub stmts_ops : FlatStmts → Fragment
   stmts_ops NoFlats result c = c
   stmts_ops (AndFlat s ss) result c = stmt_ops s result (stmts_ops ss result c)
 

@@ -7,7 +7,7 @@ use Rattle.ocl_inline.specs.Shapes.{expr_of}
 use Rattle.ocl_inline.specs.Trees.{FlatStmt}
 use Rattle.ocl_norm.specs.declared.standings.Standing.{Standing as HeldStanding}
 use Rattle.ocl_norm.specs.declared.standings.Standing.TheVariants as held
-use Rattle.ocl_norm.specs.Normal.{Part, bound_ops, branches, calls, stmt_ops, value_ops}
+use Rattle.ocl_norm.specs.Normal.{Fragment, bound_ops, branches, calls, stmt_ops, value_ops}
 use Rattle.ocl_norm.specs.Rooms.{stmt_room, value_room}
 use Rattle.ocl_norm.specs.Standings.{Standing, Fixed, Named, Made, operand_at, standing}
 
@@ -30,7 +30,7 @@ abbrev pub arg_room : FlatArgument → ℕ
 arg_room (argument.Number value binding) = value_room (expr_of value)
 arg_room (Array array) = 0
 
-abbrev pub arg_ops : FlatArgument → Part
+abbrev pub arg_ops : FlatArgument → Fragment
 arg_ops (argument.Number value binding) d c = value_ops (expr_of value) d (bound_ops binding (operand_at (standing (expr_of value)) d) c)
 arg_ops (Array array) d c = c
 

@@ -4,7 +4,7 @@ use Rattle.vx_base.specs.declared.types.Pos.{Pos}
 use Rattle.ocl_ast.specs.Trees.{ExprTree, NameTree, StmtTree}
 use Rattle.ocl_tokens.specs.declared.tokens.Token.{Token}
 use Rattle.ocl_tokens.specs.declared.tokens.TokenKind.TheVariants.{End}
-use Rattle.ocl_parser.specs.ExprSteps.{ExprNext, Goes, Ends, Refuses, Standing, settled, close_step, close_standing, expr_step}
+use Rattle.ocl_parser.specs.ExprSteps.{ExprNext, Goes, Ends, Refuses, ExprInFrames, settled, close_step, close_standing, expr_step}
 use Rattle.ocl_parser.specs.StmtSteps.{Stops, Placed, finished, placed_step, finished_step, end_step, reading_step, stmt_step}
 use Rattle.ocl_parser.specs.UnitSteps.{UnitNext, Reads, Adds, Fails, inside_step, unit_step}
 use Rattle.ocl_parser.specs.declared.states.ExprFocus.{ExprFocus}
@@ -37,7 +37,7 @@ close_over e (IndexFrame array pos ∷ K) = tt
 close_over e (ArgsFrame called args ∷ K) = tt
 close_over e (ParenFrame pos ∷ K) = tt
 
-whole_over : (s : Standing) → IsOver (close_standing End s)
+whole_over : (s : ExprInFrames) → IsOver (close_standing End s)
 whole_over s = close_over s.tree s.frames
 
 expr_over : (pos : Pos) (focus : ExprFocus) (K : List ExprFrame) → IsOver (expr_step End pos focus K)

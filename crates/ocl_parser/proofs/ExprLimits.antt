@@ -12,7 +12,7 @@ use Rattle.ocl_tokens.specs.declared.tokens.TokenKind.TheVariants.{Name as NameK
 use Rattle.ocl_parser.specs.Rooms.{left_height, last_height, HasHeight}
 use Rattle.ocl_parser.specs.Scalars.{scalar_elem}
 use Rattle.ocl_parser.specs.ScalarSteps.{scalar_first, scalar_more}
-use Rattle.ocl_parser.specs.ExprSteps.{ExprNext, Goes, Refuses, infix_of, unary_of, infix_level, infix_tree, and_arg, Standing, ends, closed_by, settled, standing, operand_step, operand_mark, named_step, opened_step, opened_word, casting_step, calling_step, done_step, done_mark, infix_step, question_step, close_standing, close_step, close_test, close_index, close_args, close_paren, expr_step}
+use Rattle.ocl_parser.specs.ExprSteps.{ExprNext, Goes, Refuses, infix_of, unary_of, infix_level, infix_tree, and_arg, ExprInFrames, ends, closed_by, settled, standing, operand_step, operand_mark, named_step, opened_step, opened_word, casting_step, calling_step, done_step, done_mark, infix_step, question_step, close_standing, close_step, close_test, close_index, close_args, close_paren, expr_step}
 use Rattle.ocl_parser.specs.declared.operators.Infix.{Infix}
 use Rattle.ocl_parser.specs.declared.operators.Infix.TheVariants.{Both as BothOp, Either, Op}
 use Rattle.ocl_parser.specs.declared.scalars.Scalar.{Scalar}
@@ -20,7 +20,7 @@ use Rattle.ocl_parser.specs.declared.states.ExprFocus.{ExprFocus}
 use Rattle.ocl_parser.specs.declared.states.ExprFocus.TheVariants.{Operand, Named, Opened, Casting, Calling, Done}
 use Rattle.ocl_parser.specs.declared.states.ExprFrame.{ExprFrame}
 use Rattle.ocl_parser.specs.declared.states.ExprFrame.TheVariants.{Unary as UnaryFrame, Cast as CastFrame, Between as InfixFrame, Test as TestFrame, Other as OtherFrame, Index as IndexFrame, Call as ArgsFrame, Paren as ParenFrame}
-use Rattle.ocl_parser.proofs.Fits.{LeftsFit, ExprFits, StandingFits, ExprRoom, ExprKeeps, Both, same, refused, alike, through}
+use Rattle.ocl_parser.proofs.Fits.{LeftsFit, ExprFits, ExprInFramesFits, ExprRoom, ExprKeeps, Both, same, refused, alike, through}
 
 pub args_more : (args : ArgTrees) (e : ExprTree) → args_height (and_arg args e) ≡ max (args_height args) (height e)
 args_more NoArgs e = omega arith
@@ -42,7 +42,7 @@ closed_height n (IndexFrame array pos) e h = absurd (true≢false (sym h))
 closed_height n (ArgsFrame called args) e h = absurd (true≢false (sym h))
 closed_height n (ParenFrame pos) e h = absurd (true≢false (sym h))
 
-pub closed_fits : (n : ℕ) (f : ExprFrame) (e : ExprTree) (K : List ExprFrame) → ends n f ≡ true → Both (StandingFits (standing e (f ∷ K))) (StandingFits (standing (closed_by f e) K))
+pub closed_fits : (n : ℕ) (f : ExprFrame) (e : ExprTree) (K : List ExprFrame) → ends n f ≡ true → Both (ExprInFramesFits (standing e (f ∷ K))) (ExprInFramesFits (standing (closed_by f e) K))
 closed_fits n f e K h =
     let c : height (closed_by f e) ≡ max (left_height f) (height e) + 1 = closed_height n f e h in (
       λ x. let a : height e + length (f ∷ K) ≤ 128 = x.0 in let b : left_height f + length (f ∷ K) ≤ 128 = x.1.0 in (omega arith, x.1.1),
@@ -50,15 +50,15 @@ closed_fits n f e K h =
     )
 
 by_end : (n : ℕ) (e : ExprTree) (f : ExprFrame) (K : List ExprFrame) (b : Bool) → ends n f ≡ b →
-    (b ≡ true → Both (StandingFits (standing (closed_by f e) K)) (StandingFits (settled n (closed_by f e) K))) →
-    Both (StandingFits (standing e (f ∷ K))) (StandingFits (cond b (settled n (closed_by f e) K) (standing e (f ∷ K))))
+    (b ≡ true → Both (ExprInFramesFits (standing (closed_by f e) K)) (ExprInFramesFits (settled n (closed_by f e) K))) →
+    Both (ExprInFramesFits (standing e (f ∷ K))) (ExprInFramesFits (cond b (settled n (closed_by f e) K) (standing e (f ∷ K))))
 by_end n e f K true h further =
-    let c : Both (StandingFits (standing e (f ∷ K))) (StandingFits (standing (closed_by f e) K)) = closed_fits n f e K h in
-    let g : Both (StandingFits (standing (closed_by f e) K)) (StandingFits (settled n (closed_by f e) K)) = further refl in
+    let c : Both (ExprInFramesFits (standing e (f ∷ K))) (ExprInFramesFits (standing (closed_by f e) K)) = closed_fits n f e K h in
+    let g : Both (ExprInFramesFits (standing (closed_by f e) K)) (ExprInFramesFits (settled n (closed_by f e) K)) = further refl in
     (λ x. g.0 (c.0 x), λ x. c.1 (g.1 x))
 by_end n e f K false h further = (λ x. x, λ x. x)
 
-pub settled_fits : (n : ℕ) (e : ExprTree) (K : List ExprFrame) → Both (StandingFits (standing e K)) (StandingFits (settled n e K))
+pub settled_fits : (n : ℕ) (e : ExprTree) (K : List ExprFrame) → Both (ExprInFramesFits (standing e K)) (ExprInFramesFits (settled n e K))
 settled_fits n e [] = (λ x. x, λ x. x)
 settled_fits n e (f ∷ K) = by_end n e f K (ends n f) refl (λ h. settled_fits n (closed_by f e) K)
 
@@ -152,17 +152,17 @@ paren_closes e pos K = (
   λ x. let a : height e + 1 + length K ≤ 128 = x.0 in (omega arith, (omega arith, x.1)),
 )
 
-test_keeps : (kind : TokenKind) (test e : ExprTree) (pos : Pos) (K : List ExprFrame) → ExprKeeps (StandingFits (standing e (TestFrame test pos ∷ K))) (close_test kind test e pos K)
+test_keeps : (kind : TokenKind) (test e : ExprTree) (pos : Pos) (K : List ExprFrame) → ExprKeeps (ExprInFramesFits (standing e (TestFrame test pos ∷ K))) (close_test kind test e pos K)
 test_keeps (MarkKind Colon) test e pos K = alike (test_closes test e pos K)
 test_keeps _ test e pos K = refused
 
 index_keeps : (kind : TokenKind) (array : Ident) (e : ExprTree) (pos : Pos) (K : List ExprFrame) →
-    ExprKeeps (StandingFits (standing e (IndexFrame array pos ∷ K))) (close_index kind array e pos K)
+    ExprKeeps (ExprInFramesFits (standing e (IndexFrame array pos ∷ K))) (close_index kind array e pos K)
 index_keeps (MarkKind CloseBracket) array e pos K = alike (index_closes array e pos K)
 index_keeps _ array e pos K = refused
 
 args_keeps : (kind : TokenKind) (n : Ident) (args : ArgTrees) (e : ExprTree) (K : List ExprFrame) →
-    ExprKeeps (StandingFits (standing e (ArgsFrame n args ∷ K))) (close_args kind n args e K)
+    ExprKeeps (ExprInFramesFits (standing e (ArgsFrame n args ∷ K))) (close_args kind n args e K)
 args_keeps (MarkKind Comma) n args e K =
     let m : args_height (and_arg args e) ≡ max (args_height args) (height e) = args_more args e in (
       λ x. let a : args_height (and_arg args e) + length (ArgsFrame n (and_arg args e) ∷ K) ≤ 128 = x.1.0 in (omega arith, (omega arith, x.1.1)),
@@ -171,11 +171,11 @@ args_keeps (MarkKind Comma) n args e K =
 args_keeps (MarkKind CloseParen) n args e K = alike (args_close n args e K)
 args_keeps _ n args e K = refused
 
-paren_keeps : (kind : TokenKind) (e : ExprTree) (pos : Pos) (K : List ExprFrame) → ExprKeeps (StandingFits (standing e (ParenFrame pos ∷ K))) (close_paren kind e pos K)
+paren_keeps : (kind : TokenKind) (e : ExprTree) (pos : Pos) (K : List ExprFrame) → ExprKeeps (ExprInFramesFits (standing e (ParenFrame pos ∷ K))) (close_paren kind e pos K)
 paren_keeps (MarkKind CloseParen) e pos K = alike (paren_closes e pos K)
 paren_keeps _ e pos K = refused
 
-close_keeps : (kind : TokenKind) (e : ExprTree) (K : List ExprFrame) → ExprKeeps (StandingFits (standing e K)) (close_step kind e K)
+close_keeps : (kind : TokenKind) (e : ExprTree) (K : List ExprFrame) → ExprKeeps (ExprInFramesFits (standing e K)) (close_step kind e K)
 close_keeps kind e [] = (λ x. (omega (arith, x), tt), λ x r. let a : height e + length {A = ExprFrame} [] ≤ 128 = x.0 in omega arith)
 close_keeps kind e (TestFrame test pos ∷ K) = test_keeps kind test e pos K
 close_keeps kind e (IndexFrame array pos ∷ K) = index_keeps kind array e pos K
@@ -187,7 +187,7 @@ close_keeps kind e (InfixFrame op left pos ∷ K) = refused
 close_keeps kind e (OtherFrame test one pos ∷ K) = refused
 
 -- a token behind a whole operand
-left_keeps : (f : ExprFrame) (e : ExprTree) (K : List ExprFrame) → left_height f ≡ height e → ExprKeeps (StandingFits (standing e K)) (Goes Operand (f ∷ K))
+left_keeps : (f : ExprFrame) (e : ExprTree) (K : List ExprFrame) → left_height f ≡ height e → ExprKeeps (ExprInFramesFits (standing e K)) (Goes Operand (f ∷ K))
 left_keeps f e K h = (
   λ x. let a : left_height f + length (f ∷ K) ≤ 128 = x.1.0 in (omega arith, x.1.1),
   λ x r. roomy Operand (f ∷ K) x.1 r,
@@ -199,12 +199,12 @@ module _ (e : ExprTree) (K : List ExprFrame) where
 
   question_keeps : (pos : Pos) → ExprKeeps (ExprFits (Done e) K) (question_step pos (settled 1 e K))
   question_keeps pos =
-      let s : Standing = settled 1 e K in
+      let s : ExprInFrames = settled 1 e K in
       through (settled_fits 1 e K) (left_keeps (TestFrame s.tree pos) s.tree s.frames refl)
 
   infix_keeps : (op : Infix) (pos : Pos) → ExprKeeps (ExprFits (Done e) K) (infix_step op pos (settled (infix_level op) e K))
   infix_keeps op pos =
-      let s : Standing = settled (infix_level op) e K in
+      let s : ExprInFrames = settled (infix_level op) e K in
       through (settled_fits (infix_level op) e K) (left_keeps (InfixFrame op s.tree pos) s.tree s.frames refl)
 
   other_keeps : (o : Option Infix) (m : Mark) (pos : Pos) →

@@ -11,7 +11,7 @@ use Rattle.ocl_tokens.specs.declared.tokens.TokenKind.{TokenKind}
 use Rattle.ocl_tokens.specs.declared.tokens.TokenKind.TheVariants.{Name as NameKind, Word as WordKind, Number as NumberKind, Mark as MarkKind, End}
 use Rattle.ocl_parser.specs.ScalarSteps.{scalar_first, scalar_more}
 use Rattle.ocl_parser.specs.Exprs.{rank, IsGrouped, AreGrouped}
-use Rattle.ocl_parser.specs.ExprSteps.{ExprNext, Goes, Ends, Refuses, infix_of, unary_of, infix_level, infix_tree, and_arg, Standing, ends, closed_by, settled, standing, operand_step, operand_mark, named_step, opened_step, opened_word, casting_step, calling_step, done_step, done_mark, infix_step, question_step, close_standing, close_step, close_test, close_index, close_args, close_paren, expr_step}
+use Rattle.ocl_parser.specs.ExprSteps.{ExprNext, Goes, Ends, Refuses, infix_of, unary_of, infix_level, infix_tree, and_arg, ExprInFrames, ends, closed_by, settled, standing, operand_step, operand_mark, named_step, opened_step, opened_word, casting_step, calling_step, done_step, done_mark, infix_step, question_step, close_standing, close_step, close_test, close_index, close_args, close_paren, expr_step}
 use Rattle.ocl_parser.specs.declared.operators.Infix.{Infix}
 use Rattle.ocl_parser.specs.declared.operators.Infix.TheVariants.{Both, Either, Op}
 use Rattle.ocl_parser.specs.declared.scalars.Scalar.{Scalar}
@@ -101,7 +101,7 @@ abbrev Unended : ℕ → List ExprFrame → Type 0
 Unended n [] = Unit {0}
 Unended n (f ∷ K) = ends n f ≡ false
 
-record IsSettled (n : ℕ) (s : Standing) : Type 0 where
+record IsSettled (n : ℕ) (s : ExprInFrames) : Type 0 where
   grouped : IsGrouped s.tree
   tight : n ≤ rank s.tree
   fits : least s.frames ≤ rank s.tree

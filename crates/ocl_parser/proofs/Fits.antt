@@ -2,7 +2,7 @@
 use Rattle.std.proofs.Common.{ℕ, ◌+◌, ◌≤◌, max, length, List, [], ◌∷◌, Option}
 use Rattle.ocl_ast.specs.Trees.{ExprTree, StmtTree, StmtTrees}
 use Rattle.ocl_ast.specs.Measures.{height, levels, all_levels}
-use Rattle.ocl_parser.specs.ExprSteps.{ExprNext, Goes, Ends, Refuses, Standing}
+use Rattle.ocl_parser.specs.ExprSteps.{ExprNext, Goes, Ends, Refuses, ExprInFrames}
 use Rattle.ocl_parser.specs.StmtSteps.{StmtNext, GoesOn, Closes, Stops, and_stmt}
 use Rattle.ocl_parser.specs.UnitSteps.{UnitNext, Reads, Adds, Fails}
 use Rattle.ocl_parser.specs.Limits.{IsLowExpr, AreLowArgs, IsLowIfAny, IsLowTarget, IsLow, AreLow, IsWithin}
@@ -29,8 +29,8 @@ LeftsFit (f ∷ K) = (left_height f + length (f ∷ K) ≤ 128) × LeftsFit K
 abbrev pub ExprFits : ExprFocus → List ExprFrame → Type 0
 ExprFits focus K = (least_height focus + length K ≤ 128) × LeftsFit K
 
-abbrev pub StandingFits : Standing → Type 0
-StandingFits s = (height s.tree + length s.frames ≤ 128) × LeftsFit s.frames
+abbrev pub ExprInFramesFits : ExprInFrames → Type 0
+ExprInFramesFits s = (height s.tree + length s.frames ≤ 128) × LeftsFit s.frames
 
 abbrev pub ExprNextFits : ExprNext → Type 0
 ExprNextFits (Goes focus K) = ExprFits focus K

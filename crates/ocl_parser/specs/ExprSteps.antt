@@ -72,12 +72,12 @@ abbrev pub and_arg : ArgTrees → ExprTree → ArgTrees
 and_arg NoArgs e = AndArg e NoArgs
 and_arg (AndArg arg args) e = AndArg arg (and_arg args e)
 
--- An expression and what it stands in.
-pub record Standing : Type 0 where
+-- An expression and the frames that wait for it.
+pub record ExprInFrames : Type 0 where
   pub tree : ExprTree
   pub frames : List ExprFrame
 
-abbrev pub standing : ExprTree → List ExprFrame → Standing
+abbrev pub standing : ExprTree → List ExprFrame → ExprInFrames
 standing e K = record { tree = e; frames = K }
 
 -- An operator of level n, or at 0 a token that is none, ends the construct. A `?` is of level 1 here.
@@ -103,7 +103,7 @@ closed_by (ArgsFrame called args) e = e
 closed_by (ParenFrame pos) e = e
 
 -- Closes the frames that end.
-abbrev pub settled : ℕ → ExprTree → List ExprFrame → Standing
+abbrev pub settled : ℕ → ExprTree → List ExprFrame → ExprInFrames
 settled n e [] = standing e []
 settled n e (f ∷ K) = cond (ends n f) (settled n (closed_by f e) K) (standing e (f ∷ K))
 
@@ -148,13 +148,13 @@ close_step kind e (CastFrame elem pos ∷ K) = Refuses
 close_step kind e (InfixFrame op left pos ∷ K) = Refuses
 close_step kind e (OtherFrame test one pos ∷ K) = Refuses
 
-abbrev pub close_standing : TokenKind → Standing → ExprNext
+abbrev pub close_standing : TokenKind → ExprInFrames → ExprNext
 close_standing kind s = close_step kind s.tree s.frames
 
-abbrev pub infix_step : Infix → Pos → Standing → ExprNext
+abbrev pub infix_step : Infix → Pos → ExprInFrames → ExprNext
 infix_step op pos s = Goes Operand (InfixFrame op s.tree pos ∷ s.frames)
 
-abbrev pub question_step : Pos → Standing → ExprNext
+abbrev pub question_step : Pos → ExprInFrames → ExprNext
 question_step pos s = Goes Operand (TestFrame s.tree pos ∷ s.frames)
 
 -- a token behind a whole operand

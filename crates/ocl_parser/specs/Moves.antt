@@ -2,7 +2,7 @@
 use Rattle.std.specs.Prelude.{ℕ, Bool, List, Option, Some, None}
 use Rattle.ocl_ast.specs.Trees.{ExprTree, StmtTree}
 use Rattle.ocl_ast.specs.Shapes.{function_tree}
-use Rattle.ocl_parser.specs.ExprSteps.{ExprNext, Goes, Ends, Refuses, Standing, standing, settled, closed_by}
+use Rattle.ocl_parser.specs.ExprSteps.{ExprNext, Goes, Ends, Refuses, ExprInFrames, standing, settled, closed_by}
 use Rattle.ocl_parser.specs.StmtSteps.{StmtNext, GoesOn, Closes, Stops, Placed, placed, finished, completed}
 use Rattle.ocl_parser.specs.UnitSteps.{UnitNext, Reads, Adds, Fails}
 use Rattle.ocl_parser.specs.declared.moves.ExprMove.{ExprMove}
@@ -30,7 +30,7 @@ unit_next (Added function) = Adds (function_tree function)
 unit_next UnitRefused = Fails
 
 -- what is left to close, once a frame has been taken off or not
-abbrev pub settled_on : ℕ → Option ExprFrame → ExprTree → List ExprFrame → Standing
+abbrev pub settled_on : ℕ → Option ExprFrame → ExprTree → List ExprFrame → ExprInFrames
 settled_on n None e K = standing e K
 settled_on n (Some f) e K = settled n (closed_by f e) K
 
