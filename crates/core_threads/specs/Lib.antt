@@ -1,0 +1,3 @@
+pub mod GroupRuns
+pub mod MachineRuns
+pub mod Works
