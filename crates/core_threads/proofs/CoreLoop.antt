@@ -1,5 +1,5 @@
 -- The loop of a core: what stands after so many turns, and how it ends.
-use Rattle.std.proofs.Common.{◌≡◌, ℕ, zero, suc, ◌+◌, ◌%◌, ◌<◌, ◌≤◌, List, [], ◌∷◌, ◌++◌, All, Option, Some, None, true, false, length, ap, ◌∙◌, sym, subst, absurd, arith, refl, ⊥, true≢false}
+use Rattle.std.proofs.Common.{◌≡◌, ℕ, zero, suc, ◌+◌, ◌%◌, ◌<◌, ◌≤◌, List, [], ◌∷◌, ◌++◌, All, Option, Some, None, true, false, length, ap, ◌∙◌, sym, subst, arith, refl, true≢false}
 use Rattle.std.proofs.lemmas.List.{length-append}
 use Rattle.std.proofs.lemmas.List.Elements.{All-append}
 use Rattle.std.specs.Option.{is_some}
@@ -32,7 +32,7 @@ finished (Machine fault warp) is = absurd (some_is_none is)
 finished (Stuck waiting ended) is = absurd (some_is_none is)
 finished (Turns count) is = absurd (some_is_none is)
 
-the_some : {A : Type 0} → A → Option A → A
+abbrev the_some : {A : Type 0} → A → Option A → A
 the_some d (Some a) = a
 the_some d None = d
 
@@ -89,7 +89,9 @@ module _ {P E : Type 0} (evicts : E → ℕ → ℕ → ℕ → ℕ → E → Ty
 
   -- a group is claimed and run
   pub record RunsOne (w : CoreWork P E) (group : ℕ) (end : GroupEnd) (w' : CoreWork P E) : Type 0 where
-    pub ran : RunsGroup AddsEntry evicts begins picks (setting_on image job w group) (state_of w) end (state_of w')
+    pub taken : GroupJob
+    pub taken_is : taken ≡ job group
+    pub ran : RunsGroup AddsEntry evicts begins picks (setting_of w.core (words_of w) (number w.bus.port) image taken) (state_of w) end (state_of w')
     pub end_is : w'.end ≡ bad_end end
     pub ticket : drawn w'.claimer ≡ drawn w.claimer ++ group ∷ []
     pub claimed_is : w'.claimed.items ≡ w.claimed.items ++ group ∷ []
@@ -145,13 +147,15 @@ module _ {P E : Type 0} (evicts : E → ℕ → ℕ → ℕ → ℕ → E → Ty
   ran_so : (old w w' : CoreWork P E) (turn group : ℕ) (end : GroupEnd) → IsRunning old turn w → RunsOne w group end w'
       → RunsGroup AddsEntry evicts begins picks (setting_on image job old group) (state_of w) end (state_of w')
   ran_so old w w' turn group end r one =
-      subst (λ (s : Setting). RunsGroup AddsEntry evicts begins picks s (state_of w) end (state_of w')) (same_setting old w turn group r) one.ran
+      let is : setting_of w.core (words_of w) (number w.bus.port) image one.taken ≡ setting_on image job old group =
+      ap (λ (j : GroupJob). setting_of w.core (words_of w) (number w.bus.port) image j) one.taken_is ∙ same_setting old w turn group r in
+      subst (λ (s : Setting). RunsGroup AddsEntry evicts begins picks s (state_of w) end (state_of w')) is one.ran
 
   still_same : (old w w' : CoreWork P E) (turn group : ℕ) (end : GroupEnd) → IsRunning old turn w → RunsOne w group end w' → KeepsNumbers old.core w'.core
   still_same old w w' turn group end r one = record { number = one.same_core.number ∙ r.same_core.number; banks = one.same_core.banks ∙ r.same_core.banks }
 
   -- The group has finished: the core goes on.
-  pub goes_on : (old w w' : CoreWork P E) (turn group : ℕ) (end : GroupEnd) → IsRunning old turn w → RunsOne w group end w' → w'.end ≡ None → IsRunning old (suc turn) w'
+  pub goes_on : (old w w' : CoreWork P E) (turn group : ℕ) (end : GroupEnd) → IsRunning old turn w → RunsOne w group end w' → w'.end ≡ None → IsRunning old (turn + 1) w'
   goes_on old w w' turn group end r one none =
       let is : end ≡ Finished = finished end (sym one.end_is ∙ none) in
       let ran = subst (λ (e : GroupEnd). RunsGroup AddsEntry evicts begins picks (setting_on image job old group) (state_of w) e (state_of w')) is (ran_so old w w' turn group end r one) in

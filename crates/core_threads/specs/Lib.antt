@@ -1,3 +1,5 @@
 pub mod GroupRuns
 pub mod MachineRuns
 pub mod Works
+pub mod Joins
+pub mod Starts

@@ -1,7 +1,8 @@
 -- A launch on the cores of a machine: what each core did, and the one history of the words that they share. Read `MachineRun` at
 -- the end first.
-use Rattle.std.specs.Prelude.{◌≡◌, ℕ, suc, ◌<◌, ◌≤◌, ◌==◌, List, [], ◌∷◌, ◌++◌, All, Option, Some, None, count_by, length, replicate, slice_get}
+use Rattle.std.specs.Prelude.{◌≡◌, ℕ, suc, ◌<◌, ◌≤◌, ◌==◌, List, [], ◌∷◌, ◌++◌, All, Option, Some, None, count_by, find, length, replicate, slice_get}
 use Rattle.std.specs.List.{flat_map}
+use Rattle.std.specs.Option.{is_some, option_and_then}
 use Rattle.std.specs.List.Sorted.{IsStrictlyIncreasing}
 use Rattle.vx_isa.specs.declared.image.Image.{Image}
 use Rattle.memory_banks.specs.declared.entry.BusEntry.{BusEntry}
@@ -17,7 +18,7 @@ use Rattle.core_threads.specs.GroupRuns.{RunsGroups}
 use Rattle.core_threads.specs.declared.record.CoreRecord.{CoreRecord}
 
 -- What runs, and on which machine: the image, how many groups there are and the job of each; how many cores there are, by how
--- many banks each counts, and the size of its cache.
+-- many banks each counts, and how many sets its cache has.
 pub record Plan : Type 0 where
   pub image : Image
   pub groups : ℕ
@@ -25,8 +26,6 @@ pub record Plan : Type 0 where
   pub cores : ℕ
   pub banks : ℕ
   pub sets : ℕ
-  pub ways : ℕ
-  pub room : ℕ
 
 -- what stays the same while a group runs on a core, where the cores share so many words; core c has the port c + 1
 abbrev pub setting_at : Plan → ℕ → ℕ → ℕ → Setting
@@ -41,7 +40,7 @@ Appends made e made' = made' ≡ made ++ e ∷ []
 pub record StartsLaunch {E P : Type 0} (evictor_begins : E → ℕ → E → Type 0) (plan : Plan) (core : ℕ) (s : CoreState (List BusEntry) E P) : Type 0 where
   pub none_made : s.reach.bus ≡ []
   pub scratch_is : s.reach.scratch ≡ zeros 1048576
-  pub lines_are : s.reach.lines ≡ no_lines plan.sets plan.ways plan.room
+  pub lines_are : s.reach.lines ≡ no_lines plan.sets 0 0
   pub steps_are : s.reach.steps ≡ replicate 16 0
   pub tally_is : s.tally ≡ no_tally
   pub before : E
@@ -70,11 +69,7 @@ pub record AreClaimed (groups : ℕ) (records : List CoreRecord) : Type 0 where
 
 -- the bad end of the least core that has one
 abbrev pub least_bad : List CoreRecord → Option GroupEnd
-least_bad [] = None
-least_bad (r ∷ records) = first_of r.end (least_bad records) where
-  abbrev pub first_of : Option GroupEnd → Option GroupEnd → Option GroupEnd
-  first_of (Some end) others = Some end
-  first_of None others = others
+least_bad records = option_and_then (λ r. r.end) (find (λ r. is_some r.end) records)
 
 -- A run of the machine on words: each core did what its record says. There is one legal history, of which each entry is of some
 -- core's port, and those of a core's port are the core's entries, in their order. The words end as the history leaves them.
