@@ -4,4 +4,6 @@ pub mod TicketsOfCores
 pub mod CoreRuns
 pub mod Histories
 pub mod Assembly
+pub mod RoomLists
+pub mod SeatLists
 pub mod Worked

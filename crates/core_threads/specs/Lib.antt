@@ -3,3 +3,5 @@ pub mod MachineRuns
 pub mod Works
 pub mod Joins
 pub mod Starts
+pub mod Rooms
+pub mod Seats

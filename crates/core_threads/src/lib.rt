@@ -5,9 +5,19 @@
 #![tactic(auto)]
 
 pub mod jobs;
+pub mod launch;
+pub mod machine;
 pub mod record;
+pub mod room;
+pub mod seats;
+pub mod side_by_side;
 pub mod work;
 
 pub use jobs::Jobs;
-pub use record::CoreRecord;
+pub use launch::{Launched, run_cores, run_groups};
+pub use machine::Machine;
+pub use record::{CoreRecord, RecordList};
+pub use room::Room;
+pub use seats::{Policies, seat_all};
+pub use side_by_side::run_all;
 pub use work::CoreWork;

@@ -1,4 +1,4 @@
-use vx_base::WordList;
+use vx_base::{ListOf, WordList};
 use vx_core::{CoreCounts, GroupEnd};
 
 /// What a core did in a launch.
@@ -11,3 +11,6 @@ pub struct CoreRecord {
     /// The end of its last group, where that is a bad one.
     pub end: Option<GroupEnd>,
 }
+
+/// What cores did, core by core.
+pub type RecordList = ListOf<CoreRecord>;
