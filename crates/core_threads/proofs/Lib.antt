@@ -6,4 +6,5 @@ pub mod Histories
 pub mod Assembly
 pub mod RoomLists
 pub mod SeatLists
+pub mod Joining
 pub mod Worked

@@ -85,6 +85,48 @@ all_ports works ports rest n all long count =
   none_left [] empty is = sym (is ∙ append-nil (map port_in works))
   none_left (p ∷ rest) empty is = absurd (omega (arith, empty))
 
+module _ {P E : Type 0} (evictor_begins : E → ℕ → E → Type 0) (groups bank_count sets : ℕ) (banks : Banks) (d : Dispenser) (given : List Port) (cores : ℕ) where
+  -- so many cores are ready, and there are ports, claimers and policies for the others
+  pub record Seating (number : ℕ) (works : List (CoreWork P E)) (capacity : ℕ) (ports : List Port) (claimers : List Claimer) (policies : ℕ) : Type 0 where
+    pub room : cores ≤ capacity
+    pub count : length works ≡ number
+    pub ports_from : PortsFrom banks number ports
+    pub ports_left : length ports + number ≡ cores
+    pub all_given : given ≡ map port_in works ++ ports
+    pub claimers_ready : AreClaimersOf d claimers
+    pub claimers_left : length claimers + number ≡ cores
+    pub policies_left : policies + number ≡ cores
+    pub each : EachSeated evictor_begins groups bank_count sets banks d works
+
+  pub none_yet : (works : List (CoreWork P E)) (capacity : ℕ) (ports : List Port) (claimers asked : List Claimer) (policies : ℕ) → works ≡ [] → cores ≤ capacity → ports ≡ given → (length given ≡ cores) × ArePortsOf banks given
+      → claimers ≡ asked → (length asked ≡ cores) × AreClaimersOf d asked → policies ≡ cores → Seating 0 works capacity ports claimers policies
+  none_yet works capacity ports claimers asked policies none room same_ports ports_are same_claimers claimers_are all = record {
+    room = room;
+    count = ap (λ (ws : List (CoreWork P E)). length ws) none;
+    ports_from = subst (λ (ps : List Port). PortsFrom banks 0 ps) (sym same_ports) (first_ports banks given ports_are.1);
+    ports_left = let long : length ports ≡ length given = ap (λ (ps : List Port). length ps) same_ports in omega (arith, long, ports_are.0);
+    all_given = sym same_ports ∙ ap (λ (ws : List (CoreWork P E)). map port_in ws ++ ports) (sym none);
+    claimers_ready = subst (λ (cs : List Claimer). AreClaimersOf d cs) (sym same_claimers) claimers_are.1;
+    claimers_left = let long : length claimers ≡ length asked = ap (λ (cs : List Claimer). length cs) same_claimers in omega (arith, long, claimers_are.0);
+    policies_left = omega (arith, all);
+    each = subst (λ (ws : List (CoreWork P E)). EachSeated evictor_begins groups bank_count sets banks d ws) (sym none) (none_seated evictor_begins groups bank_count sets banks d);
+  }
+
+  pub one_seat_more : (number : ℕ) (works works' : List (CoreWork P E)) (capacity capacity' : ℕ) (ports ports' : List Port) (claimers claimers' : List Claimer) (policies policies' : ℕ) (p : Port) (c : Claimer) (w : CoreWork P E)
+      → Seating number works capacity ports claimers policies → ports ≡ p ∷ ports' → claimers ≡ c ∷ claimers' → policies ≡ 1 + policies' → IsSeated evictor_begins groups bank_count sets banks d number w → port_in w ≡ p
+      → works' ≡ works ++ w ∷ [] → capacity' ≡ capacity → Seating (number + 1) works' capacity' ports' claimers' policies'
+  one_seat_more number works works' capacity capacity' ports ports' claimers claimers' policies policies' p c w s ports_are claimers_are policies_are seated same pushed same_room = record {
+    room = subst (λ (n : ℕ). cores ≤ n) (sym same_room) s.room;
+    count = let long : length works' ≡ length (works ++ w ∷ []) = ap (λ (ws : List (CoreWork P E)). length ws) pushed in omega (arith, long, length-append works (w ∷ []), s.count);
+    ports_from = next_ports banks number ports ports' p ports_are s.ports_from;
+    ports_left = one_fewer ports ports' p number cores ports_are s.ports_left;
+    all_given = port_behind_ports works w given ports ports' p s.all_given ports_are same ∙ ap (λ (ws : List (CoreWork P E)). map port_in ws ++ ports') (sym pushed);
+    claimers_ready = next_claimers d claimers claimers' c claimers_are s.claimers_ready;
+    claimers_left = one_fewer claimers claimers' c number cores claimers_are s.claimers_left;
+    policies_left = omega (arith, policies_are, s.policies_left);
+    each = subst (λ (ws : List (CoreWork P E)). EachSeated evictor_begins groups bank_count sets banks d ws) (sym pushed) (one_seated evictor_begins groups bank_count sets banks d works number w s.count s.each seated);
+  }
+
 -- ---- the ports and claimers that are made for the cores
 
 pub made_ports : (banks : Banks) (first : Port) (n : ℕ) (ports : List Port) → n ≤ 8 → held first ≡ range_with_len 1 15 → seen first ≡ [] → map number ports ≡ take n (held first) → All (λ p. IsNew banks first p) ports

@@ -2,7 +2,7 @@
 -- the end first.
 use Rattle.std.specs.Prelude.{◌≡◌, ℕ, suc, ◌<◌, ◌≤◌, ◌==◌, List, [], ◌∷◌, ◌++◌, All, Option, Some, None, count_by, find, length, replicate, slice_get}
 use Rattle.std.specs.List.{flat_map}
-use Rattle.std.specs.Option.{is_some, option_and_then}
+use Rattle.std.specs.Option.{is_some, option_map, unwrap_or}
 use Rattle.std.specs.List.Sorted.{IsStrictlyIncreasing}
 use Rattle.vx_isa.specs.declared.image.Image.{Image}
 use Rattle.memory_banks.specs.declared.entry.BusEntry.{BusEntry}
@@ -69,7 +69,7 @@ pub record AreClaimed (groups : ℕ) (records : List CoreRecord) : Type 0 where
 
 -- the bad end of the least core that has one
 abbrev pub least_bad : List CoreRecord → Option GroupEnd
-least_bad records = option_and_then (λ r. r.end) (find (λ r. is_some r.end) records)
+least_bad records = unwrap_or (option_map (λ r. r.end) (find (λ r. is_some r.end) records)) None
 
 -- A run of the machine on words: each core did what its record says. There is one legal history, of which each entry is of some
 -- core's port, and those of a core's port are the core's entries, in their order. The words end as the history leaves them.

@@ -77,7 +77,8 @@ fn least_end(records: &[CoreRecord]) -> Option<GroupEnd>
     records
         .iter()
         .find(|record| record.end.is_some())
-        .and_then(|record| record.end)
+        .map(|record| record.end)
+        .unwrap_or(None)
 }
 
 /// Runs all groups of a launch on the cores of a machine, each core on a thread of its own where one can be made. The words are then as
