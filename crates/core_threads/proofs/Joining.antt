@@ -1,20 +1,35 @@
 -- What cores that have run give back, as those who gather it need it.
-use Rattle.std.proofs.Common.{◌≡◌, ◌≢◌, ℕ, suc, ◌<◌, List, [], ◌++◌, length, map, All, ap, refl, sym, subst, ◌∙◌, arith, slice_index_or}
-use Rattle.group_dispenser.specs.Claimers.{IsOf as draws_from}
+use Rattle.std.proofs.Common.{◌≡◌, ◌≢◌, ℕ, suc, ◌<◌, ◌+◌, List, [], ◌∷◌, ◌++◌, length, map, All, ap, sym, subst, ◌∙◌, arith, slice_index_or}
+use Rattle.group_dispenser.specs.Claimers.{IsOf as draws_from, lists, spare}
 use Rattle.group_dispenser.specs.declared.claimer.Claimer.{Claimer}
 use Rattle.group_dispenser.specs.declared.dispenser.Dispenser.{Dispenser}
-use Rattle.memory_banks.specs.Ports.{IsOf, number}
+use Rattle.memory_banks.specs.Ports.{HasAll, IsOf, IsSame, number, numbers, seen, union}
 use Rattle.memory_banks.specs.declared.banks.Banks.{Banks}
 use Rattle.memory_banks.specs.declared.port.Port.{Port}
-use Rattle.memory_banks.specs.declared.port_bus.PortBus.{PortBus}
 use Rattle.vx_isa.specs.declared.image.Image.{Image}
 use Rattle.vx_core.specs.declared.job.GroupJob.{GroupJob}
 use Rattle.core_threads.specs.Joins.{AllRan, claimer_in, port_in}
-use Rattle.core_threads.specs.Starts.{AreSeated}
+use Rattle.core_threads.specs.Starts.{AreSeated, EachSeated}
 use Rattle.core_threads.specs.Works.{CanRun}
 use Rattle.core_threads.specs.declared.work.CoreWork.{CoreWork}
 use Rattle.core_threads.proofs.CoreRuns.{port_behind}
 use Rattle.core_threads.proofs.TicketsOfCores.{all_in_map}
+
+-- cores are ready, with the first port and the first claimer behind what was made of them
+pub are_seated : {P E : Type 0} (evictor_begins : E → ℕ → E → Type 0) (asked groups cores bank_count sets : ℕ) (banks : Banks) (first p : Port) (d : Dispenser) (made c : Claimer) (ports : List Port) (works : List (CoreWork P E))
+    → length works ≡ cores → EachSeated evictor_begins asked bank_count sets banks d works → map port_in works ≡ ports → asked ≡ groups → HasAll first → seen first ≡ [] → IsSame banks first p
+    → union (numbers p) (map numbers ports) ≡ numbers first → draws_from d c × (lists c ≡ lists made) → lists made ≡ [] ∷ [] → spare c + cores ≡ 8 → AreSeated evictor_begins groups cores bank_count sets banks p d c works
+are_seated evictor_begins asked groups cores bank_count sets banks first p d made c ports works count each ports_are same all none_seen is back claimer nothing left = record {
+  count = count;
+  each = subst (λ (n : ℕ). EachSeated evictor_begins n bank_count sets banks d works) same each;
+  port_is = is.of;
+  first = is.number_is ∙ all.first;
+  none_seen = is.seen_is ∙ none_seen;
+  all_numbers = ap (λ (ps : List Port). union (numbers p) (map numbers ps)) ports_are ∙ (back ∙ all.others);
+  claimer_is = claimer.0;
+  none_drawn = claimer.1 ∙ nothing;
+  all_claimers = omega (arith, count, left);
+}
 
 -- what was put into an empty list
 pub put_in : {A B : Type 0} (f : A → B) (got front : List B) (xs new : List A) → got ≡ front ++ map f xs → front ≡ [] → xs ≡ new → got ≡ map f new

@@ -2,7 +2,7 @@
 use Rattle.std.proofs.Common.{◌≡◌, ℕ, ◌+◌, ◌<◌, ◌≤◌, List, [], ◌∷◌, ◌++◌, length, map, vec_capacity, ap, refl, sym, ◌∙◌, arith, length-append, append_assoc}
 use Rattle.std.proofs.lemmas.List.{append-nil, length-map, map-append}
 use Rattle.core_threads.specs.Joins.{claimer_in, port_in, record_of}
-use Rattle.core_threads.specs.Rooms.{HasRoom, SameRoom, Takes, TakesAll}
+use Rattle.core_threads.specs.Rooms.{HasRoom, Takes, TakesAll}
 use Rattle.core_threads.specs.declared.room.Room.{Room}
 use Rattle.core_threads.specs.declared.work.CoreWork.{CoreWork}
 

@@ -1,14 +1,13 @@
 -- Lists of ports, claimers and cores, while cores are made ready one after another.
-use Rattle.std.proofs.Common.{◌≡◌, ℕ, zero, suc, ◌+◌, ◌<◌, ◌≤◌, inl, inr, List, [], ◌∷◌, ◌++◌, length, map, get_or, take, vec_capacity, ap, refl, sym, subst, ◌∙◌, All, arith, length-append, append_assoc, slice_index_or}
+use Rattle.std.proofs.Common.{◌≡◌, ℕ, suc, ◌+◌, ◌<◌, ◌≤◌, inl, inr, List, [], ◌∷◌, ◌++◌, length, map, get_or, take, ap, sym, subst, ◌∙◌, All, arith, length-append, append_assoc, slice_index_or}
 use Rattle.std.specs.List.{range_with_len}
 use Rattle.std.proofs.lemmas.List.{append-nil, get_or_append_left, get_or-take, length-map, length-take, map-append}
 use Rattle.std.proofs.lemmas.List.FromFn.{get_or-range_with_len, length-range_with_len}
 use Rattle.std.proofs.Math.Seq.{get_or-append_seam}
 use Rattle.std.proofs.lemmas.Bool.{cases_lt}
-use Rattle.group_dispenser.specs.Claimers.{IsOf as draws_from, lists, spare}
 use Rattle.group_dispenser.specs.declared.claimer.Claimer.{Claimer}
 use Rattle.group_dispenser.specs.declared.dispenser.Dispenser.{Dispenser}
-use Rattle.memory_banks.specs.Ports.{IsNew, held, number, numbers, seen}
+use Rattle.memory_banks.specs.Ports.{IsNew, held, number, seen}
 use Rattle.memory_banks.specs.Rule.{one_of}
 use Rattle.memory_banks.specs.declared.banks.Banks.{Banks}
 use Rattle.memory_banks.specs.declared.port.Port.{Port}

@@ -1,8 +1,8 @@
-use Rattle.std.proofs.Common.{◌≡◌, ◌∙◌, ◌++◌, ◌+◌, All, List, ap, drop, length, map, subst, sum_by, sym, take}
+use Rattle.std.proofs.Common.{◌∙◌, ◌++◌, ◌+◌, All, List, ap, length, map, subst, sum_by, sym}
 use Rattle.std.specs.List.{flat_map}
 use Rattle.group_dispenser.specs.Claimers.{lists, spare}
 use Rattle.group_dispenser.specs.declared.claimer.Claimer.{Claimer}
-use Rattle.memory_banks.specs.Ports.{KeptIn, number, numbers, union}
+use Rattle.memory_banks.specs.Ports.{KeptIn, numbers, union}
 use Rattle.memory_banks.specs.declared.port.Port.{Port}
 use Rattle.memory_banks.proofs.Rows.{whole_row}
 use Rattle.core_threads.specs.Joins.{claimer_in, port_in, record_of}
