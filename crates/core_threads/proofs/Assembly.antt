@@ -99,17 +99,17 @@ module _ {P E : Type 0} (evicts : E → ℕ → ℕ → ℕ → ℕ → E → Ty
             absurd (none_is_of ((slice_index_or (seen q) k e).port) (seen q) none k e within refl)
         | inr of_one ↦ by_port of_one.0 (omega (arith, of_one.1, length-map (map port_in works) numbers, length-map works port_in)) of_one.2
       ] where
-    by_port : (core : ℕ) → core < length works → Among (slice_index_or (map numbers (map port_in works)) core 0) ((slice_index_or (seen q) k e).port) → IsOfCore plan.cores (slice_index_or (seen q) k e)
-    by_port core there is =
-        let w : CoreWork P E = some_of works core there in
-        let at : slice_index_or (map numbers (map port_in works)) core 0 ≡ one_of (suc core) =
-        get_map numbers (map port_in works) core (port_in w) 0 (omega (arith, there, length-map works port_in))
-        ∙ (ap numbers (get_map port_in works core w (port_in w) there) ∙ (seated.each core w there).alone) in
-        record {
-          core = core;
-          exists = omega (arith, there, seated.count);
-          port_is = only_one (suc core) ((slice_index_or (seen q) k e).port) (omega (arith, there, few)) (subst (λ (set : ℕ). Among set ((slice_index_or (seen q) k e).port)) at is);
-        }
+        by_port : (core : ℕ) → core < length works → Among (slice_index_or (map numbers (map port_in works)) core 0) ((slice_index_or (seen q) k e).port) → IsOfCore plan.cores (slice_index_or (seen q) k e)
+        by_port core there is =
+            let w : CoreWork P E = some_of works core there in
+            let at : slice_index_or (map numbers (map port_in works)) core 0 ≡ one_of (suc core) =
+            get_map numbers (map port_in works) core (port_in w) 0 (omega (arith, there, length-map works port_in))
+            ∙ (ap numbers (get_map port_in works core w (port_in w) there) ∙ (seated.each core w there).alone) in
+            record {
+              core = core;
+              exists = omega (arith, there, seated.count);
+              port_is = only_one (suc core) ((slice_index_or (seen q) k e).port) (omega (arith, there, few)) (subst (λ (set : ℕ). Among set ((slice_index_or (seen q) k e).port)) at is);
+            }
 
   -- the entries of a core's port in the history are those that it made
   entries_at : (core : ℕ) (w : CoreWork P E) → core < length works → entries_of (suc core) (seen q) ≡ list_of (port_in (new_at core w))

@@ -12,9 +12,9 @@ among_union k set [] is = inl is
 among_union k set (s ∷ sets) is =
     elim (among_union k (bit_or set s) sets is) [
       | inl here ↦ elim (either_among set s k here) [
-          | inl first ↦ inl first
-          | inr head ↦ inr (0, omega arith, head)
-        ]
+        | inl first ↦ inl first
+        | inr head ↦ inr (0, omega arith, head)
+      ]
       | inr behind ↦ inr (suc behind.0, omega (arith, behind.1), behind.2)
     ]
 

@@ -80,9 +80,9 @@ pub all_ports : {P E : Type 0} (works : List (CoreWork P E)) (ports rest : List 
 all_ports works ports rest n all long count =
     let whole : length ports ≡ length (map port_in works ++ rest) = ap (λ (l : List Port). length l) all in
     none_left rest (omega (arith, whole, length-append (map port_in works) rest, length-map works port_in, long, count)) all where
-  none_left : (rest : List Port) → length rest ≡ 0 → ports ≡ map port_in works ++ rest → map port_in works ≡ ports
-  none_left [] empty is = sym (is ∙ append-nil (map port_in works))
-  none_left (p ∷ rest) empty is = absurd (omega (arith, empty))
+      none_left : (rest : List Port) → length rest ≡ 0 → ports ≡ map port_in works ++ rest → map port_in works ≡ ports
+      none_left [] empty is = sym (is ∙ append-nil (map port_in works))
+      none_left (p ∷ rest) empty is = absurd (omega (arith, empty))
 
 module _ {P E : Type 0} (evictor_begins : E → ℕ → E → Type 0) (groups bank_count sets : ℕ) (banks : Banks) (d : Dispenser) (given : List Port) (cores : ℕ) where
   -- so many cores are ready, and there are ports, claimers and policies for the others
