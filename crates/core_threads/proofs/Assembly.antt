@@ -1,5 +1,5 @@
 -- From cores that have run, with what they gave back gathered, to one run of the machine.
-use Rattle.std.proofs.Common.{◌≡◌, ℕ, zero, suc, ◌+◌, ◌<◌, ◌≤◌, inl, inr, List, [], ◌∷◌, ◌++◌, Option, Some, length, map, get_or, ap, refl, sym, subst, ◌∙◌, All, arith, flat_map, slice_get, slice_index_or, sum_by, length-append}
+use Rattle.std.proofs.Common.{◌≡◌, ℕ, zero, suc, ◌+◌, ◌<◌, ◌≤◌, inl, inr, List, [], ◌∷◌, ◌++◌, Option, Some, length, map, get_or, ap, refl, sym, subst, ◌∙◌, All, arith, flat_map, slice_get, slice_index_or, length-append}
 use Rattle.std.specs.List.{concat}
 use Rattle.std.specs.List.Sorted.{IsStrictlyIncreasing}
 use Rattle.std.proofs.lemmas.List.{length-map}
@@ -21,8 +21,7 @@ use Rattle.core_bytes.specs.BusRuns.{IsOfCore}
 use Rattle.core_bytes.proofs.PortLists.{Added}
 use Rattle.core_threads.specs.Joins.{AreJoined, claimer_in, port_in, record_of}
 use Rattle.core_threads.specs.MachineRuns.{AreClaimed, CoreRan, MachineRun, Plan, least_bad}
-use Rattle.core_threads.specs.Starts.{AreSeated, IsSeated}
-use Rattle.core_threads.specs.Works.{HasRun}
+use Rattle.core_threads.specs.Starts.{AreSeated}
 use Rattle.core_threads.specs.declared.record.CoreRecord.{CoreRecord}
 use Rattle.core_threads.specs.declared.work.CoreWork.{CoreWork}
 use Rattle.core_threads.proofs.CoreRuns.{core_ran, port_behind}

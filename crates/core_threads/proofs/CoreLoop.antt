@@ -9,17 +9,16 @@ use Rattle.group_dispenser.specs.Claimers.{IsOf as draws_from, drawn, gathered, 
 use Rattle.group_dispenser.specs.declared.dispenser.Dispenser.{Dispenser}
 use Rattle.memory_banks.specs.Buses.{AddsEntry}
 use Rattle.memory_banks.specs.declared.entry.BusEntry.{BusEntry}
-use Rattle.memory_banks.specs.Ports.{IsOf, number, opening_of}
-use Rattle.memory_banks.specs.declared.port_bus.PortBus.{PortBus}
+use Rattle.memory_banks.specs.Ports.{IsOf, number}
 use Rattle.vx_isa.specs.declared.image.Image.{Image}
-use Rattle.vx_core.specs.Cores.{KeepsNumbers, core_state, setting_of}
+use Rattle.vx_core.specs.Cores.{KeepsNumbers, setting_of}
 use Rattle.vx_core.specs.CoreSteps.{CoreState, RunsGroup, Setting}
 use Rattle.vx_core.specs.declared.core_run.Core.{Core}
 use Rattle.vx_core.specs.declared.end.GroupEnd.{GroupEnd}
 use Rattle.vx_core.specs.declared.end.GroupEnd.TheVariants.{Finished, Machine, Stuck, Trapped, Turns}
 use Rattle.vx_core.specs.declared.job.GroupJob.{GroupJob}
-use Rattle.core_threads.specs.GroupRuns.{AllFinish, FinishAll, LastBreaks, RunsGroups, bad_end}
-use Rattle.core_threads.specs.Works.{CanRun, HasAll, HasBroken, HasRun, NoneLeft, Stops, setting_on, state_of, words_of}
+use Rattle.core_threads.specs.GroupRuns.{AllFinish, FinishAll, LastBreaks, bad_end}
+use Rattle.core_threads.specs.Works.{CanRun, HasAll, HasBroken, HasRun, NoneLeft, setting_on, state_of, words_of}
 use Rattle.core_threads.specs.declared.work.CoreWork.{CoreWork}
 
 some_is_none : {A : Type 0} {a : A} → Some a ≡ None → ⊥

@@ -1,10 +1,10 @@
 -- What a core did through its port, said by the entries of the port alone.
-use Rattle.std.proofs.Common.{◌≡◌, ℕ, suc, List, [], ◌∷◌, ◌++◌, Option, Some, None, length, ap, refl, sym, subst, ◌∙◌, replicate}
+use Rattle.std.proofs.Common.{◌≡◌, ℕ, List, [], ◌∷◌, ◌++◌, Option, length, ap, refl, subst, ◌∙◌}
 use Rattle.std.proofs.Math.Path.{fun_ext}
 use Rattle.group_dispenser.specs.declared.dispenser.Dispenser.{Dispenser}
 use Rattle.memory_banks.specs.Buses.{AddsEntry, MakesAll}
 use Rattle.memory_banks.specs.Entries.{entries_of}
-use Rattle.memory_banks.specs.Ports.{list_of, number, numbers, opening_of, seen}
+use Rattle.memory_banks.specs.Ports.{list_of, number, opening_of}
 use Rattle.memory_banks.specs.declared.banks.Banks.{Banks}
 use Rattle.memory_banks.specs.declared.entry.BusEntry.{BusEntry}
 use Rattle.memory_banks.specs.declared.port_bus.PortBus.{PortBus}
@@ -21,7 +21,7 @@ use Rattle.core_bytes.proofs.GroupDeeds.{group_does}
 use Rattle.core_bytes.proofs.PortLists.{Added, added}
 use Rattle.core_threads.specs.GroupRuns.{AllFinish, FinishAll, LastBreaks, RunsGroups}
 use Rattle.core_threads.specs.Joins.{record_of}
-use Rattle.core_threads.specs.MachineRuns.{Appends, CoreRan, Plan, StartsLaunch, setting_at}
+use Rattle.core_threads.specs.MachineRuns.{Appends, CoreRan, Plan, setting_at}
 use Rattle.core_threads.specs.Starts.{IsSeated}
 use Rattle.core_threads.specs.Works.{HasRun, setting_on, state_of, words_of}
 use Rattle.core_threads.specs.declared.work.CoreWork.{CoreWork}

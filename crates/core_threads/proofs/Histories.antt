@@ -1,13 +1,10 @@
 -- The one history, once all ports are gathered: its entries are those of the cores, and those of each core are its port's.
-use Rattle.std.proofs.Common.{◌≡◌, ℕ, zero, suc, ◌+◌, ◌<◌, ◌≤◌, ◌⊎◌, Bool, cond, true, false, eqb, inl, inr, List, [], ◌∷◌, ◌++◌, length, map, ap, refl, sym, subst, ◌∙◌, All, arith, eq-eqb, bit_or, slice_index_or, filter}
-use Rattle.std.proofs.lemmas.List.Elements.{All-head, All-tail}
+use Rattle.std.proofs.Common.{◌≡◌, ℕ, zero, suc, ◌<◌, ◌⊎◌, Bool, cond, true, false, eqb, inl, inr, List, [], ◌∷◌, length, ap, refl, sym, subst, ◌∙◌, All, arith, eq-eqb, bit_or, slice_index_or}
 use Rattle.memory_banks.specs.Entries.{entries_of}
-use Rattle.memory_banks.specs.Ports.{KeptIn, list_of, number, numbers, seen, union}
-use Rattle.memory_banks.specs.Rule.{Among, one_of}
+use Rattle.memory_banks.specs.Ports.{union}
+use Rattle.memory_banks.specs.Rule.{Among}
 use Rattle.memory_banks.specs.declared.entry.BusEntry.{BusEntry}
-use Rattle.memory_banks.specs.declared.port.Port.{Port}
-use Rattle.memory_banks.proofs.Sets.{among_all, among_one, either_among, only_one}
-use Rattle.core_bytes.specs.BusRuns.{IsOfCore}
+use Rattle.memory_banks.proofs.Sets.{either_among}
 
 -- a number of a union is in one of the sets
 pub among_union : (k set : ℕ) (sets : List ℕ) → Among (union set sets) k → Among set k ⊎ ((j : ℕ) × (j < length sets) × Among (slice_index_or sets j 0) k)

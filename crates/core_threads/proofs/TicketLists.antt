@@ -1,10 +1,9 @@
 -- Lists of tickets and of groups: how often a number stands in them.
-use Rattle.std.proofs.Common.{◌≡◌, ℕ, zero, suc, ◌+◌, ◌-◌, ◌<◌, ◌≤◌, ◌⊎◌, Bool, cond, true, false, eqb, inl, inr, List, [], ◌∷◌, ◌++◌, length, get_or, ap, refl, sym, subst, ◌∙◌, All, arith, length-append, count_by, eq-eqb, ne_eqb, slice_index_or, flat_map, add-one}
+use Rattle.std.proofs.Common.{◌≡◌, ℕ, zero, suc, ◌+◌, ◌-◌, ◌<◌, ◌≤◌, ◌⊎◌, Bool, cond, eqb, inl, inr, List, [], ◌∷◌, ◌++◌, length, get_or, ap, refl, sym, subst, All, arith, length-append, count_by, eq-eqb, ne_eqb, slice_index_or, flat_map, add-one}
 use Rattle.std.specs.List.Sorted.{IsStrictlyIncreasing}
 use Rattle.std.proofs.lemmas.List.{get_or_append_left}
 use Rattle.std.proofs.lemmas.List.Elements.{All-head, All-tail}
 use Rattle.std.proofs.lemmas.List.Sums.{sum_by-append, sum_by-cons}
-use Rattle.std.proofs.lemmas.Bool.{cases_eq}
 
 -- how often a number stands in a list
 abbrev pub often : ℕ → List ℕ → ℕ

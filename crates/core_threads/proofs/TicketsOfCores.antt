@@ -1,5 +1,5 @@
 -- What the cores claimed, by the tickets that their claimers drew.
-use Rattle.std.proofs.Common.{◌≡◌, ℕ, zero, suc, ◌+◌, ◌<◌, ◌≤◌, ◌⊎◌, inl, inr, List, [], ◌∷◌, ◌++◌, Bool, true, false, Option, Some, None, is_some, if◌then◌else◌, nat_lt, le-ltb, lt-ltb, true≢false, length, map, ap, refl, sym, subst, ◌∙◌, All, arith, flat_map, slice_get, slice_index_or, append-nil}
+use Rattle.std.proofs.Common.{◌≡◌, ℕ, zero, suc, ◌<◌, ◌≤◌, ◌⊎◌, inl, inr, List, [], ◌∷◌, ◌++◌, Bool, true, false, Option, Some, None, is_some, if◌then◌else◌, nat_lt, le-ltb, lt-ltb, true≢false, length, map, ap, refl, sym, subst, ◌∙◌, All, arith, flat_map, slice_get, slice_index_or}
 use Rattle.std.specs.List.{concat}
 use Rattle.std.specs.List.Sorted.{IsStrictlyIncreasing}
 use Rattle.std.proofs.lemmas.List.Elements.{All-head, All-tail, All-nil, All-cons}
@@ -8,7 +8,7 @@ use Rattle.vx_core.specs.declared.end.GroupEnd.{GroupEnd}
 use Rattle.group_dispenser.specs.Claimers.{drawn, gathered, lists}
 use Rattle.group_dispenser.specs.Tickets.{AreBelow, first_of, rest_of}
 use Rattle.group_dispenser.specs.declared.claimer.Claimer.{Claimer}
-use Rattle.core_threads.proofs.TicketLists.{AreTickets, all_there, as_often, claimed_ascend, no_more, often, often-append, often_in_less, often_in_one, often_in_same, often_last}
+use Rattle.core_threads.proofs.TicketLists.{AreTickets, all_there, as_often, claimed_ascend, no_more, often, often_in_less, often_in_one, often_in_same, often_last}
 use Rattle.core_threads.specs.Joins.{claimer_in, record_of}
 use Rattle.core_threads.specs.MachineRuns.{AreClaimed, times}
 use Rattle.core_threads.specs.Works.{HasAll, HasBroken, NoneLeft, Stops}

@@ -1,9 +1,9 @@
 -- A worked run of a machine, computed from the definitions: two cores on one word, and one group, which may take no instruction. The
 -- second core claims it, so its end is that of the run.
-use Rattle.std.proofs.Common.{◌≡◌, ℕ, zero, suc, ◌<◌, List, [], ◌∷◌, Option, Some, None, All, cond, eqb, length, replicate, refl, sym, subst, ap, ◌∙◌, arith, slice_get, true≢false, is_some, Bool, true, false, ne_eqb, ◌≤◌, ◌+◌}
+use Rattle.std.proofs.Common.{◌≡◌, ℕ, zero, suc, ◌<◌, List, [], ◌∷◌, Option, Some, None, All, cond, eqb, replicate, refl, sym, subst, ap, arith, slice_get, true≢false, is_some, Bool, true, false, ne_eqb, ◌≤◌, ◌+◌}
 use Rattle.std.specs.List.Sorted.{IsStrictlyIncreasing}
 use Rattle.std.proofs.lemmas.List.Elements.{All-from_recursion, All-nil}
-use Rattle.vx_isa.specs.Warps.{WarpState, started}
+use Rattle.vx_isa.specs.Warps.{started}
 use Rattle.vx_isa.specs.WarpSteps.{code_start}
 use Rattle.vx_isa.specs.declared.image.Image.{Image}
 use Rattle.memory_banks.specs.Entries.{entries_of, load_entry, replay, store_entry}
@@ -13,8 +13,6 @@ use Rattle.vx_core.specs.Blocks.{with_block, with_zeros, zeros}
 use Rattle.vx_core.specs.Counting.{no_tally}
 use Rattle.vx_core.specs.CoreSteps.{CoreState, RunsGroup, RunsOut, counts_of}
 use Rattle.vx_core.specs.Crews.{CrewState, Opens}
-use Rattle.vx_core.specs.Places.{Reach}
-use Rattle.vx_core.specs.declared.end.GroupEnd.{GroupEnd}
 use Rattle.vx_core.specs.declared.end.GroupEnd.TheVariants.{Turns}
 use Rattle.vx_core.specs.declared.job.GroupJob.{GroupJob}
 use Rattle.core_bytes.specs.BusRuns.{IsOfCore}

@@ -1,5 +1,5 @@
 -- The cores of a machine before a launch, with all that each owns.
-use Rattle.std.specs.Prelude.{◌≡◌, ℕ, suc, ◌+◌, ◌<◌, ◌≤◌, List, [], ◌∷◌, length, map, slice_index_or}
+use Rattle.std.specs.Prelude.{◌≡◌, ℕ, suc, ◌+◌, ◌<◌, List, [], ◌∷◌, length, map, slice_index_or}
 use Rattle.group_dispenser.specs.Claimers.{IsOf as draws_from, gathered, lists, spare}
 use Rattle.group_dispenser.specs.declared.claimer.Claimer.{Claimer}
 use Rattle.group_dispenser.specs.declared.dispenser.Dispenser.{Dispenser}

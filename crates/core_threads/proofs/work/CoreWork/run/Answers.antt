@@ -1,4 +1,4 @@
-use Rattle.std.proofs.Common.{ℕ, ◌<◌, ◌≤◌, All, ap, ◌∙◌, sym, subst, arith, refl}
+use Rattle.std.proofs.Common.{ℕ, ◌<◌, ◌∙◌, sym, subst, arith, refl}
 use Rattle.core_threads.proofs.CoreLoop.{breaks, goes_on, has_all, it_is, it_is_not, none_claimed, none_left}
 use Rattle.core_threads.proofs.work.CoreWork.run.Goals as goal
 
@@ -59,7 +59,7 @@ loop-turn-preserved g c =
           same_core = c.run_group-end.ensures.same_core;
           same_number = refl;
         })
-        (it_is_not c.bad_end-self.result (sym c.is_some.ensures ∙ c.if-is_some.false)) in
+        (it_is_not c.bad_end-self.result (sym c.is_some.ensures ∙ c.if-is_some.false))
 
 pub returns : goal.returns
 returns g c =
