@@ -89,10 +89,7 @@ fn image_of(alloc: Global, words: &[u32]) -> Result<Image, Fail> {
     })
 }
 
-fn policies_of(
-    alloc: Global,
-    cores: u32,
-) -> Result<Vec<Policies<RoundRobin, EvictOldest>>, Fail>
+fn policies_of(alloc: Global, cores: u32) -> Result<Vec<Policies<RoundRobin, EvictOldest>>, Fail>
     ensures { IfOk result (λ v. length v.items ≡ cores) }
 {
     let mut policies = Vec::with_capacity(alloc, cores as usize)?;
@@ -134,7 +131,9 @@ fn run_on<R: Threads + Sync, G: Gate + Sync>(
     let image = image_of(alloc, code)?;
     let policies = policies_of(alloc, cores)?;
     let mut words = words_of(alloc)?;
-    let launched = run_groups(rt, alloc, &image, &jobs, machine, policies, gate, &mut words)?;
+    let launched = run_groups(
+        rt, alloc, &image, &jobs, machine, policies, gate, &mut words,
+    )?;
     Ok((launched, words))
 }
 
