@@ -54,9 +54,11 @@ pub fn run_cores<
     mut works: Vec<CoreWork<'_, P, E>>,
     mut room: Room,
 ) -> RecordList
-    requires seated { AreSeated E.begins (J.groups jobs.now) machine.cores machine.banks machine.sets banks.now port.old dispenser.now claimer.old works.items }
+    requires seated { AreSeated E.begins (J.groups jobs.now) machine.cores machine.banks machine.sets
+        banks.now port.old dispenser.now claimer.old works.items }
     requires room { HasRoom (length works.items) room × IsEmptyRoom room }
-    ensures { AreJoined E.evicts P.begins P.picks image.now (J.job_of jobs.now) banks.now dispenser.now (J.groups jobs.now) works.entry.items port.old claimer.old port.new claimer.new result }
+    ensures { AreJoined E.evicts P.begins P.picks image.now (J.job_of jobs.now) banks.now dispenser.now
+        (J.groups jobs.now) works.entry.items port.old claimer.old port.new claimer.new result }
 {
     run_all(rt, image, jobs, dispenser, gate, works.as_mut_slice());
     room.take_all(works);
@@ -81,8 +83,8 @@ fn least_end(records: &[CoreRecord]) -> Option<GroupEnd>
         .unwrap_or(None)
 }
 
-/// Runs all groups of a launch on the cores of a machine, each core on a thread of its own where one can be made. The words are then as
-/// the cores left them. All memory is taken before the first core starts; where there is none, the words are as before.
+/// Runs all groups of a launch on the cores of a machine, each core on a thread of its own where one can be made. The words are
+/// then as the cores left them. All memory is taken before the first core starts; where there is none, the words are as before.
 pub fn run_groups<
     R: Threads + Sync,
     J: Jobs + Sync,
@@ -103,7 +105,9 @@ pub fn run_groups<
     requires policies { length policies.items ≡ machine.cores }
     requires words { length words.old < 2 ^ 32 }
     requires lines { length words.old % 16 ≡ 0 }
-    ensures ran { IfOk result (λ r. (history : List BusEntry) × MachineRun E.evicts E.begins P.begins P.picks (plan_of image.now (J.groups jobs.now) (J.job_of jobs.now) machine) words.old r.records history words.new r.end) }
+    ensures ran { IfOk result (λ r. (history : List BusEntry)
+        × MachineRun E.evicts E.begins P.begins P.picks
+        (plan_of image.now (J.groups jobs.now) (J.job_of jobs.now) machine) words.old r.records history words.new r.end) }
     ensures err { OnErr result (words.new ≡ words.old) }
 {
     let (banks, mut port) = Banks::of_words(alloc, words)?;

@@ -1,8 +1,8 @@
-//! The cores of a machine on threads of their own: each claims groups of a launch and runs them on words that all share, and what all
-//! did is one run of the machine.
+//! The cores of a machine on threads of their own: each claims groups of a launch and runs them on words that all share, and
+//! what all did is one run of the machine.
 //!
-//! Read first `specs/MachineRuns.antt` for what a run of the machine is, with `specs/GroupRuns.antt` for the groups of one core, and
-//! [`run_groups`] for the launch. `proofs/Worked.antt` is a worked run.
+//! Read first `specs/MachineRuns.antt` for what a run of the machine is, with `specs/GroupRuns.antt` for the groups of one
+//! core, and [`run_groups`] for the launch. `proofs/Worked.antt` is a worked run.
 //!
 //! - `jobs`: the groups of a launch, and the job that each is for a core.
 //! - `machine`: how many cores there are, and what each of them is.

@@ -28,7 +28,8 @@ pub fn run_all<
     works: &mut [CoreWork<'_, P, E>],
 )
     requires { All (λ w. CanRun dispenser.now (J.groups jobs.now) w) works.old }
-    ensures { AllRan E.evicts P.begins P.picks image.now (J.job_of jobs.now) dispenser.now (J.groups jobs.now) works.old works.new }
+    ensures { AllRan E.evicts P.begins P.picks image.now (J.job_of jobs.now) dispenser.now
+        (J.groups jobs.now) works.old works.new }
 {
     if works.is_empty() {
         return;
@@ -40,7 +41,8 @@ pub fn run_all<
         threads,
         &|_, work: &mut CoreWork<'_, P, E>|
             requires { CanRun dispenser.now (J.groups jobs.now) work.now }
-            ensures { HasRun E.evicts P.begins P.picks image.entry.now (J.job_of jobs.entry.now) dispenser.entry.now (J.groups jobs.entry.now) work.entry.now work.exit.now }
+            ensures { HasRun E.evicts P.begins P.picks image.entry.now (J.job_of jobs.entry.now)
+                dispenser.entry.now (J.groups jobs.entry.now) work.entry.now work.exit.now }
         { work.run(image, jobs, dispenser, gate) },
     );
 }

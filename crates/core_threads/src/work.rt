@@ -34,8 +34,8 @@ pub struct CoreWork<'a, P: Picker, E: Evictor> {
 impl<P: Picker, E: Evictor> CoreWork<'_, P, E> {
     ghost use Rattle.core_threads.specs.Works.{CanRun, HasRun};
 
-    /// Claims groups and runs them, until none is left or one has a bad end. It passes the gate after each claim of a group, and takes
-    /// no memory.
+    /// Claims groups and runs them, until none is left or one has a bad end. It passes the gate after each claim of a group, and
+    /// takes no memory.
     pub fn run<J: Jobs, G: Gate>(
         &mut self,
         image: &Image,
@@ -44,7 +44,8 @@ impl<P: Picker, E: Evictor> CoreWork<'_, P, E> {
         gate: &G,
     )
         requires { CanRun dispenser.now (J.groups jobs.now) self.old }
-        ensures { HasRun E.evicts P.begins P.picks image.now (J.job_of jobs.now) dispenser.now (J.groups jobs.now) self.old self.new }
+        ensures { HasRun E.evicts P.begins P.picks image.now (J.job_of jobs.now) dispenser.now
+            (J.groups jobs.now) self.old self.new }
     {
         for turn in 0..jobs.count() {
             let Some(group) = self.claimer.claim(dispenser) else {
