@@ -1,0 +1,10 @@
+pub mod CoreLoop
+pub mod TicketLists
+pub mod TicketsOfCores
+pub mod CoreRuns
+pub mod Histories
+pub mod Assembly
+pub mod RoomLists
+pub mod SeatLists
+pub mod Joining
+pub mod Worked
