@@ -12,4 +12,8 @@ pub mod Bringing
 pub mod Computing
 pub mod Acting
 pub mod ComputingAlong
+pub mod Bare
+pub mod Placing
+pub mod Through
+pub mod Cutting
 pub mod Worked

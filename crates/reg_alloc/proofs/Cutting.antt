@@ -1,0 +1,37 @@
+-- Two shifts cut a word to a type, and ten words find a lane's frame.
+use Rattle.std.proofs.Common.{◌≡◌, ℕ, ◌+◌, ◌*◌, ◌/◌, ◌%◌, ◌^◌, ◌<◌, ◌≤◌, ap, sym, ◌∙◌, arith, refl}
+use Rattle.std.proofs.Math.Nat.{mod-mod, mod-eq_of_lt}
+use Rattle.std.proofs.lemmas.Int.{ints}
+use Rattle.vx_base.specs.Values.{alu_value_of, fitted, floor_div, signed_in, signed_of, word_of}
+use Rattle.vx_base.specs.declared.types.Alu.TheVariants as alu
+use Rattle.vx_base.specs.declared.types.Elem.{Elem}
+use Rattle.vx_base.specs.declared.types.Elem.TheVariants as elem
+use Rattle.vx_layout.specs.Addresses.{frame_of, frames_start}
+use Rattle.reg_alloc.specs.Blocks.{spare_bits}
+
+-- what the word that shifts right makes of a value
+abbrev pub cut_value : Elem → ℕ → ℕ
+cut_value elem.Char x = alu_value_of alu.Sra x 24
+cut_value elem.Uchar x = alu_value_of alu.Srl x 24
+cut_value elem.Short x = alu_value_of alu.Sra x 16
+cut_value elem.Ushort x = alu_value_of alu.Srl x 16
+cut_value elem.Int x = alu_value_of alu.Srl x 0
+cut_value elem.Uint x = alu_value_of alu.Srl x 0
+
+char_cut : (v : ℕ) → v < 2 ^ 8 → word_of (floor_div (signed_of (v * 2 ^ 24)) (2 ^ 24)) ≡ word_of (signed_in 8 v)
+char_cut v low = grind (arith, ints)
+
+short_cut : (v : ℕ) → v < 2 ^ 16 → word_of (floor_div (signed_of (v * 2 ^ 16)) (2 ^ 16)) ≡ word_of (signed_in 16 v)
+short_cut v low = grind (arith, ints)
+
+pub cut_fits : (e : Elem) (v : ℕ) → cut_value e (alu_value_of alu.Sll v (spare_bits e)) ≡ fitted e v
+cut_fits elem.Char v =
+    let high : v * 2 ^ 24 % 2 ^ 32 ≡ v % 2 ^ 8 * 2 ^ 24 = omega arith in
+    ap (λ x. word_of (floor_div (signed_of x) (2 ^ 24))) high ∙ char_cut (v % 2 ^ 8) (omega arith)
+cut_fits elem.Uchar v = let h : v * 2 ^ 24 % 2 ^ 32 / 2 ^ 24 ≡ v % 2 ^ 8 = omega arith in h
+cut_fits elem.Short v =
+    let high : v * 2 ^ 16 % 2 ^ 32 ≡ v % 2 ^ 16 * 2 ^ 16 = omega arith in
+    ap (λ x. word_of (floor_div (signed_of x) (2 ^ 16))) high ∙ short_cut (v % 2 ^ 16) (omega arith)
+cut_fits elem.Ushort v = let h : v * 2 ^ 16 % 2 ^ 32 / 2 ^ 16 ≡ v % 2 ^ 16 = omega arith in h
+cut_fits elem.Int v = let h : v * 1 % 2 ^ 32 / 1 ≡ v % 2 ^ 32 = omega arith in h
+cut_fits elem.Uint v = let h : v * 1 % 2 ^ 32 / 1 ≡ v % 2 ^ 32 = omega arith in h
