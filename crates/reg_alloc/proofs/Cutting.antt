@@ -1,13 +1,14 @@
 -- Two shifts cut a word to a type, and ten words find a lane's frame.
 use Rattle.std.proofs.Common.{◌≡◌, ℕ, ◌+◌, ◌*◌, ◌/◌, ◌%◌, ◌^◌, ◌<◌, ◌≤◌, ap, sym, ◌∙◌, arith, refl}
-use Rattle.std.proofs.Math.Nat.{mod-mod, mod-eq_of_lt}
 use Rattle.std.proofs.lemmas.Int.{ints}
+use Rattle.std.proofs.lemmas.Nat.{mul-mod, mul-mod_second}
 use Rattle.vx_base.specs.Values.{alu_value_of, fitted, floor_div, signed_in, signed_of, word_of}
 use Rattle.vx_base.specs.declared.types.Alu.TheVariants as alu
 use Rattle.vx_base.specs.declared.types.Elem.{Elem}
 use Rattle.vx_base.specs.declared.types.Elem.TheVariants as elem
 use Rattle.vx_layout.specs.Addresses.{frame_of, frames_start}
 use Rattle.reg_alloc.specs.Blocks.{spare_bits}
+use Rattle.reg_alloc.specs.Plain.{lower, upper}
 
 -- what the word that shifts right makes of a value
 abbrev pub cut_value : Elem → ℕ → ℕ
@@ -35,3 +36,22 @@ cut_fits elem.Short v =
 cut_fits elem.Ushort v = let h : v * 2 ^ 16 % 2 ^ 32 / 2 ^ 16 ≡ v % 2 ^ 16 = omega arith in h
 cut_fits elem.Int v = let h : v * 1 % 2 ^ 32 / 1 ≡ v % 2 ^ 32 = omega arith in h
 cut_fits elem.Uint v = let h : v * 1 % 2 ^ 32 / 1 ≡ v % 2 ^ 32 = omega arith in h
+
+-- the address that the words of a place where a warp may begin compute
+pub frame_found : (w l number slots : ℕ) → frame_of w l number slots + 4 * slots < 2 ^ 32
+    → alu_value_of alu.Add (alu_value_of alu.Mul (alu_value_of alu.Add (alu_value_of alu.Mul w (l % 2 ^ 32)) number) (alu_value_of alu.Add 0 (4 * slots))) (0x10080 * 2 ^ 12 % 2 ^ 32)
+    ≡ frame_of w l number slots
+frame_found w l number slots small =
+    let all : ℕ = w * l + number in
+    let one : (w * (l % 2 ^ 32)) % 2 ^ 32 ≡ (w * l) % 2 ^ 32 = mul-mod_second w l (2 ^ 32) in
+    let two : ((w * (l % 2 ^ 32)) % 2 ^ 32 + number) % 2 ^ 32 ≡ all % 2 ^ 32 = omega (arith, one) in
+    let three : (all % 2 ^ 32 * ((0 + 4 * slots) % 2 ^ 32)) % 2 ^ 32 ≡ (all * (0 + 4 * slots)) % 2 ^ 32 = sym (mul-mod all (0 + 4 * slots) (2 ^ 32)) in
+    let four : all * (0 + 4 * slots) ≡ all * (4 * slots) = ap (λ n. all * n) (omega arith) in
+    let less : frames_start + all * (4 * slots) + 4 * slots < 2 ^ 32 = small in
+    let last : ((all * (0 + 4 * slots)) % 2 ^ 32 + 0x10080 * 2 ^ 12 % 2 ^ 32) % 2 ^ 32 ≡ frames_start + all * (4 * slots) = omega (arith, four, less) in
+    ap (λ x. alu_value_of alu.Add (alu_value_of alu.Mul x (alu_value_of alu.Add 0 (4 * slots))) (0x10080 * 2 ^ 12 % 2 ^ 32)) two
+    ∙ ap (λ x. alu_value_of alu.Add x (0x10080 * 2 ^ 12 % 2 ^ 32)) three ∙ last
+
+-- two words that bring a number bring it as a word
+pub whole_word : (n : ℕ) → alu_value_of alu.Add (upper n * 2 ^ 12 % 2 ^ 32) (lower n) ≡ n % 2 ^ 32
+whole_word n = grind arith

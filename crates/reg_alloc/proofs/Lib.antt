@@ -16,4 +16,7 @@ pub mod Bare
 pub mod Placing
 pub mod Through
 pub mod Cutting
+pub mod Knowing
+pub mod Going
+pub mod Operations
 pub mod Worked
