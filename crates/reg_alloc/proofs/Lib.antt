@@ -19,4 +19,7 @@ pub mod Cutting
 pub mod Knowing
 pub mod Going
 pub mod Operations
+pub mod Asking
+pub mod Turning
+pub mod KeptLanes
 pub mod Worked
