@@ -1,5 +1,6 @@
 -- Two shifts cut a word to a type, and ten words find a lane's frame.
-use Rattle.std.proofs.Common.{◌≡◌, ℕ, ◌+◌, ◌*◌, ◌/◌, ◌%◌, ◌^◌, ◌<◌, ◌≤◌, ap, sym, ◌∙◌, arith, refl}
+use Rattle.std.proofs.Common.{◌≡◌, ℕ, ◌+◌, ◌-◌, ◌*◌, ◌/◌, ◌%◌, ◌^◌, ◌<◌, ◌≤◌, ◌⊎◌, inl, inr, pos, negsuc, ap, sym, ◌∙◌, arith, refl}
+use Rattle.std.proofs.lemmas.Bool.{cases_lt}
 use Rattle.std.proofs.lemmas.Int.{ints}
 use Rattle.std.proofs.lemmas.Nat.{mul-mod, mul-mod_second}
 use Rattle.vx_base.specs.Values.{alu_value_of, fitted, floor_div, signed_in, signed_of, word_of}
@@ -19,11 +20,48 @@ cut_value elem.Ushort x = alu_value_of alu.Srl x 16
 cut_value elem.Int x = alu_value_of alu.Srl x 0
 cut_value elem.Uint x = alu_value_of alu.Srl x 0
 
+-- words, and fields of eight and of sixteen bits, read as signed numbers
+word_low : (n : ℕ) → n < 2 ^ 31 → signed_of n ≡ pos n
+word_low n low = grind (arith, ints)
+
+word_high : (n : ℕ) → 2 ^ 31 ≤ n → n < 2 ^ 32 → signed_of n ≡ negsuc (2 ^ 32 - 1 - n)
+word_high n high small = grind (arith, ints)
+
+char_low : (n : ℕ) → n < 2 ^ 7 → signed_in 8 n ≡ pos n
+char_low n low = grind (arith, ints)
+
+char_high : (n : ℕ) → 2 ^ 7 ≤ n → n < 2 ^ 8 → signed_in 8 n ≡ negsuc (2 ^ 8 - 1 - n)
+char_high n high small = grind (arith, ints)
+
+short_low : (n : ℕ) → n < 2 ^ 15 → signed_in 16 n ≡ pos n
+short_low n low = grind (arith, ints)
+
+short_high : (n : ℕ) → 2 ^ 15 ≤ n → n < 2 ^ 16 → signed_in 16 n ≡ negsuc (2 ^ 16 - 1 - n)
+short_high n high small = grind (arith, ints)
+
+char_by : (v : ℕ) → v < 2 ^ 8 → (v < 2 ^ 7) ⊎ (2 ^ 7 ≤ v) → word_of (floor_div (signed_of (v * 2 ^ 24)) (2 ^ 24)) ≡ word_of (signed_in 8 v)
+char_by v small (inl low) =
+    let same : v * 2 ^ 24 / 2 ^ 24 ≡ v = omega arith in
+    ap (λ z. word_of (floor_div z (2 ^ 24))) (word_low (v * 2 ^ 24) (omega (arith, low))) ∙ ap (λ (q : ℕ). word_of (pos q)) same ∙ ap word_of (sym (char_low v low))
+char_by v small (inr high) =
+    let same : (2 ^ 32 - 1 - v * 2 ^ 24) / 2 ^ 24 ≡ 2 ^ 8 - 1 - v = omega (arith, small, high) in
+    ap (λ z. word_of (floor_div z (2 ^ 24))) (word_high (v * 2 ^ 24) (omega (arith, high)) (omega (arith, small))) ∙ ap (λ (q : ℕ). word_of (negsuc q)) same
+    ∙ ap word_of (sym (char_high v high small))
+
+short_by : (v : ℕ) → v < 2 ^ 16 → (v < 2 ^ 15) ⊎ (2 ^ 15 ≤ v) → word_of (floor_div (signed_of (v * 2 ^ 16)) (2 ^ 16)) ≡ word_of (signed_in 16 v)
+short_by v small (inl low) =
+    let same : v * 2 ^ 16 / 2 ^ 16 ≡ v = omega arith in
+    ap (λ z. word_of (floor_div z (2 ^ 16))) (word_low (v * 2 ^ 16) (omega (arith, low))) ∙ ap (λ (q : ℕ). word_of (pos q)) same ∙ ap word_of (sym (short_low v low))
+short_by v small (inr high) =
+    let same : (2 ^ 32 - 1 - v * 2 ^ 16) / 2 ^ 16 ≡ 2 ^ 16 - 1 - v = omega (arith, small, high) in
+    ap (λ z. word_of (floor_div z (2 ^ 16))) (word_high (v * 2 ^ 16) (omega (arith, high)) (omega (arith, small))) ∙ ap (λ (q : ℕ). word_of (negsuc q)) same
+    ∙ ap word_of (sym (short_high v high small))
+
 char_cut : (v : ℕ) → v < 2 ^ 8 → word_of (floor_div (signed_of (v * 2 ^ 24)) (2 ^ 24)) ≡ word_of (signed_in 8 v)
-char_cut v low = grind (arith, ints)
+char_cut v small = char_by v small (cases_lt v (2 ^ 7))
 
 short_cut : (v : ℕ) → v < 2 ^ 16 → word_of (floor_div (signed_of (v * 2 ^ 16)) (2 ^ 16)) ≡ word_of (signed_in 16 v)
-short_cut v low = grind (arith, ints)
+short_cut v small = short_by v small (cases_lt v (2 ^ 15))
 
 pub cut_fits : (e : Elem) (v : ℕ) → cut_value e (alu_value_of alu.Sll v (spare_bits e)) ≡ fitted e v
 cut_fits elem.Char v =

@@ -22,4 +22,5 @@ pub mod Operations
 pub mod Asking
 pub mod Turning
 pub mod KeptLanes
+pub mod Basing
 pub mod Worked

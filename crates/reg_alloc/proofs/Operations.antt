@@ -113,9 +113,6 @@ under_words (n ∷ ns) small = small.1
 
 module _ (slots : ℕ) (ops : List VOp) (few : slots ≤ 256) (within : AreWithin slots ops) (low : words ops ≤ 65536)
     (k : Setting) (place : ℕ → Place) (at : IsSettingOf slots ops k) where
-  abbrev here : ℕ → ℕ
-  here p = word_of_place ops p
-
   -- what stands behind the block of an operation
   abbrev later : VOp → ℕ → List VOp → List Instr
   later op p rest = instrs_from slots (word_of_place ops) (op_words op + word_of_place ops p) rest

@@ -15,7 +15,6 @@ use Rattle.vx_isa.specs.Warps.{has_lane, value_in}
 use Rattle.vx_isa.specs.WarpSteps.{code_start, fetched}
 use Rattle.vx_isa.specs.declared.instr.Instr.{Instr}
 use Rattle.vx_isa.specs.declared.instr.Instr.TheVariants as instr
-use Rattle.vx_isa.specs.declared.warps.MachineTrap.TheVariants as trap
 use Rattle.vcode.specs.Code.{VOp, IfZero, IfNot, Goto, Tmc, Trap, Leaves, Again}
 use Rattle.vcode.specs.Machine.{Lane, lane, op_step, step_from}
 use Rattle.vcode.specs.Words.{op_words, words}
@@ -103,12 +102,12 @@ module _ (slots : ℕ) (ops : List VOp) (few : slots ≤ 256) (within : AreWithi
           let ready = ready_of start ws b rs h same slots a [] below (reads_now k place ops op rest p e rs ts ns ws b clean) in
           let h1 : Held = brought left a h in
           let x = word_of_place ops p + length (operand_before left a []) in
-          let zero : nat_eq (value_in h1.registers (register_of left a)) 0 ≡ true =
+          let nothing : nat_eq (value_in h1.registers (register_of left a)) 0 ≡ true =
           ap (λ v. nat_eq v 0) (operand_value left refl refl refl a h (ready_held start rs h a ready) ∙ ready_value start rs h a ready) ∙ is in
           let goes : op_step (around_in k place) op p rs ts ns ≡ Go (lane q rs ts ns) = ap (λ (z : Bool). Go (lane (if z then q else suc p) rs ts ns)) is in
           branches_on slots ops few within low k place at op rest p e a (instr.Bne (register_of left a) 0 8) q (later op p rest) h ns (blocks_stand slots ops rest op p e)
           (block_size slots (word_of_place ops) (op_words op + word_of_place ops p) op) below (ready_based start rs h a ready) m rs ts rs ts goes
-          (bne_on k (register_of left a) (lane_at x h1 ns) zero)
+          (bne_on k (register_of left a) (lane_at x h1 ns) nothing)
           (λ v. there rs ts ns (set 0 v h1) ws b small (behind_op op rest p e rs ts ns h ws b clean (lane q rs ts ns) goes)
           (same_kept start ws b rs h same (set 0 v h1) (frame_kept left a h) (others_kept left refl refl refl a h 4 refl) (others_kept left refl refl refl a h 3 refl)))
       by false is =
@@ -138,12 +137,12 @@ module _ (slots : ℕ) (ops : List VOp) (few : slots ≤ 256) (within : AreWithi
           let ready = ready_of start ws b rs h same slots a [] below (reads_now k place ops op rest p e rs ts ns ws b clean) in
           let h1 : Held = brought left a h in
           let x = word_of_place ops p + length (operand_before left a []) in
-          let zero : nat_eq (value_in h1.registers (register_of left a)) 0 ≡ true =
+          let nothing : nat_eq (value_in h1.registers (register_of left a)) 0 ≡ true =
           ap (λ v. nat_eq v 0) (operand_value left refl refl refl a h (ready_held start rs h a ready) ∙ ready_value start rs h a ready) ∙ is in
           let goes : op_step (around_in k place) op p rs ts ns ≡ Go (lane (suc p) rs ts ns) = ap (λ (z : Bool). Go (lane (if z then suc p else q) rs ts ns)) is in
           branches_over slots ops few within low k place at op rest p e a (instr.Beq (register_of left a) 0 8) q (later op p rest) h ns (blocks_stand slots ops rest op p e)
           (block_size slots (word_of_place ops) (op_words op + word_of_place ops p) op) below (ready_based start rs h a ready) m rs ts rs ts goes
-          (beq_over k (register_of left a) (lane_at x h1 ns) zero)
+          (beq_over k (register_of left a) (lane_at x h1 ns) nothing)
           (next rs ts ns h1 ws b small (behind_op op rest p e rs ts ns h ws b clean (lane (suc p) rs ts ns) goes)
           (same_kept start ws b rs h same h1 (frame_kept left a h) (others_kept left refl refl refl a h 4 refl) (others_kept left refl refl refl a h 3 refl)))
       by false is =
@@ -173,12 +172,12 @@ module _ (slots : ℕ) (ops : List VOp) (few : slots ≤ 256) (within : AreWithi
           let ready = ready_of start ws b rs h same slots a [] below (reads_now k place ops op rest p e rs ts ns ws b clean) in
           let h1 : Held = brought left a h in
           let x = word_of_place ops p + length (operand_before left a []) in
-          let zero : nat_eq (value_in h1.registers (register_of left a)) 0 ≡ true =
+          let nothing : nat_eq (value_in h1.registers (register_of left a)) 0 ≡ true =
           ap (λ v. nat_eq v 0) (operand_value left refl refl refl a h (ready_held start rs h a ready) ∙ ready_value start rs h a ready) ∙ is in
           let goes : op_step (around_in k place) op p rs ts ns ≡ Go (lane q rs (under ts) ns) = ap (λ (z : Bool). Go (if z then lane q rs (under ts) ns else lane (suc p) rs ts ns)) is in
           branches_on slots ops few within low k place at op rest p e a (instr.Bne (register_of left a) 0 8) q (later op p rest) h ns (blocks_stand slots ops rest op p e)
           (block_size slots (word_of_place ops) (op_words op + word_of_place ops p) op) below (ready_based start rs h a ready) m rs ts rs (under ts) goes
-          (bne_on k (register_of left a) (lane_at x h1 ns) zero)
+          (bne_on k (register_of left a) (lane_at x h1 ns) nothing)
           (λ v. there rs (under ts) ns (set 0 v h1) ws b small (behind_op op rest p e rs ts ns h ws b clean (lane q rs (under ts) ns) goes)
           (same_kept start ws b rs h same (set 0 v h1) (frame_kept left a h) (others_kept left refl refl refl a h 4 refl) (others_kept left refl refl refl a h 3 refl)))
       by false is =
