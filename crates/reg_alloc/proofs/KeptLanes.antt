@@ -4,7 +4,7 @@ use Rattle.item_acts.specs.declared.acts.Place.{Place}
 use Rattle.step_machine.specs.Sims.{Unseen}
 use Rattle.step_machine.proofs.AlongLaws.{along_alike}
 use Rattle.vcode.specs.Code.{VOp, Fresh, Copy, Compute, Cut, Word, WordAt, Learn, Fetch, Write, IfZero, IfNot, Goto, Split, Join, Pred, Tmc, Wspawn, Bar, Trap, Enter, Leaves, Again}
-use Rattle.vcode.specs.Machine.{step}
+use Rattle.vcode.specs.Machine.{lane, step}
 use Rattle.vcode.specs.Words.{words}
 use Rattle.vcode.proofs.Steps.{behind}
 use Rattle.simt_lowering.specs.Bounds.{AreWithin}
@@ -51,8 +51,8 @@ module _ (slots : ℕ) (ops : List VOp) (few : slots ≤ 256) (within : AreWithi
   onward m there (Again q ∷ rest) p e = again_from slots ops few within low k place at q rest m p e (there q)
 
   everywhere : (n p : ℕ) → From k place slots ops n p
-  everywhere zero p rs ts ns h ws b small clean same = Unseen _ _
-  everywhere (suc m) p = onward m (everywhere m) (drop p ops) p refl
+  everywhere zero p = λ rs ts ns h ws b small clean same. Unseen (lane p rs ts ns) (lane_at (word_of_place ops p) h ns)
+  everywhere (suc m) p = onward m (λ q. everywhere m q) (drop p ops) p refl
 
 pub lanes_are_kept : LanesAreKept
 lanes_are_kept slots ops few within low k place at s small clean registers frame =

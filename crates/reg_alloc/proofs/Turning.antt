@@ -50,6 +50,13 @@ beq_over k r s is = ap (λ b. Go (goes (if b then address_at s.pc 8 else next_pc
 beq_on : (k : Setting) (r : ℕ) (s : ImageLane) → nat_eq (value_in s.registers r) 0 ≡ false → instr_step k (instr.Beq r 0 8) s ≡ Go (goes (next_pc s) s)
 beq_on k r s is = ap (λ b. Go (goes (if b then address_at s.pc 8 else next_pc s) s)) is
 
+-- a lane goes on if its mask has it, and ends if not
+abbrev left_or_on : ImageLane → Bool → Step ImageLane
+left_or_on s kept = if kept then Go (goes (next_pc s) s) else Stop End
+
+abbrev lane_or_end : Lane → Bool → Step Lane
+lane_or_end s kept = if kept then Go s else Stop End
+
 module _ (slots : ℕ) (ops : List VOp) (few : slots ≤ 256) (within : AreWithin slots ops) (low : words ops ≤ 65536)
     (k : Setting) (place : ℕ → Place) (at : IsSettingOf slots ops k) where
   abbrev later : VOp → ℕ → List VOp → List Instr
@@ -224,14 +231,14 @@ module _ (slots : ℕ) (ops : List VOp) (few : slots ≤ 256) (within : AreWithi
           let s : ImageLane = lane_at (word_of_place ops p + length (operand_before left a [])) h1 ns in
           let stays : has_lane (value_in h1.registers (register_of left a)) k.number ≡ true =
           ap (λ v. has_lane v k.number) (operand_value left refl refl refl a h (ready_held start rs h a ready) ∙ ready_value start rs h a ready) ∙ is in
-          let goes : op_step (around_in k place) op p rs ts ns ≡ Go (lane (suc p) rs ts ns) = ap (λ (z : Bool). if z then Go (lane (suc p) rs ts ns) else Stop End) is in
+          let goes : op_step (around_in k place) op p rs ts ns ≡ Go (lane (suc p) rs ts ns) = ap (lane_or_end (lane (suc p) rs ts ns)) is in
           let count : length (operand_before left a []) + 1 ≡ op_words op = block_size slots (word_of_place ops) (op_words op + word_of_place ops p) op in
           goes_on slots ops few within low k place at op rest p e n rs ts ns rs ts ns h h1 ws b clean goes small
           (same_kept start ws b rs h same h1 (frame_kept left a h) (others_kept left refl refl refl a h 4 refl) (others_kept left refl refl refl a h 3 refl)) next
           (ended slots ops few within low k place at op rest p e (operand_before left a []) (instr.Tmc (register_of left a)) (later op p rest) h h1 h1 ns ns (blocks_stand slots ops rest op p e)
           count (operand_reaches left refl refl refl (around_in k place) slots start a [] h below (ready_based start rs h a ready) tt)
           (operand_brings left refl refl refl (around_in k place) slots a [] h below)
-          (ap (λ (z : Bool). if z then Go (goes (next_pc s) s) else Stop End) stays))
+          (ap (left_or_on s) stays))
       by false is =
           let op = Tmc a in
           let start = start_in k slots in
@@ -245,7 +252,7 @@ module _ (slots : ℕ) (ops : List VOp) (few : slots ≤ 256) (within : AreWithi
           let s : ImageLane = lane_at (j + length ws0) h1 ns in
           let leaves : has_lane (value_in h1.registers (register_of left a)) k.number ≡ false =
           ap (λ v. has_lane v k.number) (operand_value left refl refl refl a h (ready_held start rs h a ready) ∙ ready_value start rs h a ready) ∙ is in
-          let stops : op_step (around_in k place) op p rs ts ns ≡ Stop End = ap (λ (z : Bool). if z then Go (lane (suc p) rs ts ns) else Stop End) is in
+          let stops : op_step (around_in k place) op p rs ts ns ≡ Stop End = ap (lane_or_end (lane (suc p) rs ts ns)) is in
           let count : length ws0 + 1 ≡ op_words op = block_size slots (word_of_place ops) (op_words op + j) op in
           let near : op_words op + j ≤ 65536 = near_end slots ops few within low k place at op rest p e in
           let stand : drop j list ≡ plain_onto ws0 (instr.Tmc (register_of left a) ∷ later op p rest) = blocks_stand slots ops rest op p e in
@@ -255,7 +262,7 @@ module _ (slots : ℕ) (ops : List VOp) (few : slots ≤ 256) (within : AreWithi
           (BothStop n (lane p rs ts ns) s End (code_goes slots ops few within low k place at op rest p e rs ts ns (Stop End) stops)
           (word_goes (code_step k place ops) free k place slots start at.stands list at.words fits (instr.Tmc (register_of left a)) (later op p rest) (j + length ws0) h1 ns
           (plain_rest list ws0 (instr.Tmc (register_of left a) ∷ later op p rest) j stand)
-          ∙ ap (λ (z : Bool). if z then Go (goes (next_pc s) s) else Stop End) leaves))
+          ∙ ap (left_or_on s) leaves))
 
   pub end_from : (n p : ℕ) → drop p ops ≡ [] → From k place slots ops n p
   end_from n p e rs ts ns h ws b small clean same =
