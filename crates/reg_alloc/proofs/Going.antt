@@ -1,5 +1,5 @@
 -- Both lanes go on behind the block of an operation.
-use Rattle.std.proofs.Common.{◌≡◌, ℕ, suc, ◌+◌, ◌-◌, ◌<◌, ◌≤◌, Bool, List, [], ◌∷◌, length, drop, map, ap, sym, subst, ◌∙◌, arith, refl}
+use Rattle.std.proofs.Common.{◌≡◌, ℕ, suc, ◌+◌, ◌-◌, ◌<◌, ◌≤◌, Bool, List, [], ◌∷◌, length, drop, ap, sym, subst, ◌∙◌, arith, refl}
 use Rattle.item_acts.specs.declared.acts.Place.{Place}
 use Rattle.item_acts.specs.Launches.{put_at}
 use Rattle.item_acts.specs.Machine.{Step, Go}
@@ -8,7 +8,6 @@ use Rattle.kir.specs.Trees.{Operand}
 use Rattle.kir.specs.Numbered.{IsBelow}
 use Rattle.vx_layout.specs.Addresses.{frame_of}
 use Rattle.vx_isa.specs.Effects.{address_at}
-use Rattle.vx_isa.specs.Words.{word_of}
 use Rattle.vx_isa.specs.Warps.{value_in}
 use Rattle.vx_isa.specs.declared.instr.Instr.{Instr}
 use Rattle.vcode.specs.Code.{VOp}
@@ -17,8 +16,8 @@ use Rattle.vcode.specs.Words.{op_words, words}
 use Rattle.simt_lowering.specs.Bounds.{AreWithin}
 use Rattle.simt_lowering.specs.Runs.{Leads, and_written}
 use Rattle.reg_alloc.specs.Plain.{Held, Plain, PutSlot, do_all, held, instr_of, made, left, set}
-use Rattle.reg_alloc.specs.Blocks.{address_of_word, block, jump, operand_before}
-use Rattle.reg_alloc.specs.Layout.{instrs_from, instrs_of, plain_onto, word_of_place}
+use Rattle.reg_alloc.specs.Blocks.{address_of_word, jump, operand_before}
+use Rattle.reg_alloc.specs.Layout.{instrs_of, plain_onto, word_of_place}
 use Rattle.reg_alloc.specs.Alone.{ImageLane, Setting, goes, image_lane, image_step, instr_step, next_pc}
 use Rattle.reg_alloc.specs.Keeping.{AreWords, IsSettingOf, around_in, bases}
 use Rattle.reg_alloc.proofs.Acting.{plain_rest}

@@ -18,7 +18,7 @@ use Rattle.reg_alloc.proofs.Bare.{alike_bare}
 use Rattle.reg_alloc.proofs.Going.{From, code_step, free}
 use Rattle.reg_alloc.proofs.Goings.{lane_at}
 use Rattle.reg_alloc.proofs.Knowing.{clean_from}
-use Rattle.reg_alloc.proofs.Operations.{compute_from, copy_from, cut_from, enter_from, fresh_from, join_from, learn_from, pred_from, spawn_from, split_from, word_at_from, word_from}
+use Rattle.reg_alloc.proofs.Forward.{compute_from, copy_from, cut_from, enter_from, fresh_from, join_from, learn_from, pred_from, spawn_from, split_from, word_at_from, word_from}
 use Rattle.reg_alloc.proofs.Turning.{again_from, end_from, goto_from, if_not_from, if_zero_from, leaves_from, tmc_from, trap_from}
 
 module _ (slots : ℕ) (ops : List VOp) (few : slots ≤ 256) (within : AreWithin slots ops) (low : words ops ≤ 65536)

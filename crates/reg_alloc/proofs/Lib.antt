@@ -18,7 +18,7 @@ pub mod Through
 pub mod Cutting
 pub mod Knowing
 pub mod Going
-pub mod Operations
+pub mod Forward
 pub mod Asking
 pub mod Turning
 pub mod KeptLanes

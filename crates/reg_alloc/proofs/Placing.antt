@@ -1,5 +1,5 @@
 -- Where the words of a place stand, how many are left there, and where the checks are.
-use Rattle.std.proofs.Common.{◌≡◌, ℕ, zero, suc, ◌+◌, ◌-◌, ◌*◌, ◌/◌, ◌%◌, ◌≤◌, true, false, nat_eq, nat_le, List, [], ◌∷◌, length, drop, map, None, Some, Err, ap, sym, ◌∙◌, arith, refl}
+use Rattle.std.proofs.Common.{◌≡◌, ℕ, zero, suc, ◌+◌, ◌-◌, ◌*◌, ◌/◌, ◌%◌, ◌≤◌, true, false, nat_eq, nat_le, List, [], ◌∷◌, length, drop, map, None, Some, Err, ap, ◌∙◌, arith, refl}
 use Rattle.std.specs.Prelude.{slice_get}
 use Rattle.std.proofs.lemmas.Bool.{eq-eqb, le-leb, ne_eqb}
 use Rattle.vx_base.specs.declared.types.Pos.{Pos}

@@ -1,5 +1,5 @@
 -- A lane alone goes through words, and whatever goes along with the lane behind them goes along with it before them.
-use Rattle.std.proofs.Common.{◌≡◌, ℕ, suc, ◌+◌, ◌<◌, ◌≤◌, List, [], ◌∷◌, drop, length, map, ap, sym, subst, ◌∙◌, arith, refl}
+use Rattle.std.proofs.Common.{◌≡◌, ℕ, suc, ◌+◌, ◌<◌, ◌≤◌, List, ◌∷◌, drop, length, map, ap, sym, subst, ◌∙◌, arith, refl}
 use Rattle.item_acts.specs.declared.acts.Place.{Place}
 use Rattle.item_acts.specs.Launches.{put_at}
 use Rattle.item_acts.specs.Machine.{Step, Go}
@@ -9,13 +9,13 @@ use Rattle.vx_isa.specs.Words.{word_of}
 use Rattle.vx_isa.specs.Warps.{value_in, with_register}
 use Rattle.vx_isa.specs.declared.instr.Instr.{Instr}
 use Rattle.reg_alloc.specs.Plain.{Held, Plain, PutSlot, do_all, held, instr_of, made, set}
-use Rattle.reg_alloc.specs.Blocks.{address_of_word, distance, jump}
+use Rattle.reg_alloc.specs.Blocks.{address_of_word, jump}
 use Rattle.reg_alloc.specs.Layout.{plain_onto}
 use Rattle.reg_alloc.specs.Alone.{ImageLane, Setting, fetched_step, goes, image_lane, image_step, instr_step, next_pc}
 use Rattle.reg_alloc.specs.Keeping.{Stands, around_in}
 use Rattle.reg_alloc.proofs.Acting.{plain_rest}
 use Rattle.reg_alloc.proofs.Fitting.{AllFit}
-use Rattle.reg_alloc.proofs.Goings.{ReachAll, lane_at, plain_along, plain_goes, rest_at, step_at}
+use Rattle.reg_alloc.proofs.Goings.{ReachAll, lane_at, plain_along, plain_goes, step_at}
 use Rattle.reg_alloc.proofs.Standing.{jumps_land}
 
 abbrev pub Through : {S : Type 0} → (S → Step S) → (S → ℕ) → Setting → ImageLane → ImageLane → Type 0

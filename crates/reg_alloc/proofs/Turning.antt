@@ -1,5 +1,5 @@
 -- Both lanes go along where an operation leads to a place, and stop alike.
-use Rattle.std.proofs.Common.{◌≡◌, ℕ, suc, ◌+◌, ◌-◌, ◌*◌, ◌<◌, ◌≤◌, ◌^◌, Bool, true, false, nat_eq, not, if◌then◌else◌, List, [], ◌∷◌, length, drop, Option, None, Some, Err, ap, sym, subst, ◌∙◌, arith, refl}
+use Rattle.std.proofs.Common.{◌≡◌, ℕ, suc, ◌+◌, ◌-◌, ◌*◌, ◌≤◌, Bool, true, false, nat_eq, not, if◌then◌else◌, List, [], ◌∷◌, length, drop, Some, ap, sym, subst, ◌∙◌, arith, refl}
 use Rattle.std.specs.Prelude.{◌==◌}
 use Rattle.vx_base.specs.declared.types.Pos.{Pos}
 use Rattle.item_acts.specs.declared.acts.Place.{Place}
@@ -23,14 +23,14 @@ use Rattle.simt_lowering.specs.Runs.{Leads, and_written}
 use Rattle.reg_alloc.specs.Plain.{Held, left, set}
 use Rattle.reg_alloc.specs.Blocks.{address_of_word, jump, operand_before, register_of}
 use Rattle.reg_alloc.specs.Layout.{instrs_from, instrs_of, plain_onto, sites_of, word_of_place}
-use Rattle.reg_alloc.specs.Alone.{ImageLane, Setting, faults, fetched_step, goes, image_step, instr_step, next_pc, position}
-use Rattle.reg_alloc.specs.Keeping.{AreWords, IsSettingOf, around_in, bases}
+use Rattle.reg_alloc.specs.Alone.{ImageLane, Setting, faults, fetched_step, goes, instr_step, next_pc, position}
+use Rattle.reg_alloc.specs.Keeping.{IsSettingOf, around_in, bases}
 use Rattle.reg_alloc.proofs.Acting.{plain_rest}
 use Rattle.reg_alloc.proofs.Bare.{bared}
 use Rattle.reg_alloc.proofs.Bringing.{brought, frame_kept, operand_brings, operand_reaches, operand_value, others_kept}
 use Rattle.reg_alloc.proofs.Going.{Along, From, all_fit, branches_on, branches_over, code_goes, code_step, ended, free, goes_on, near_end, near_place, start_in}
 use Rattle.reg_alloc.proofs.Goings.{lane_at}
-use Rattle.reg_alloc.proofs.Knowing.{Clean, Same, clean_behind, ready_based, ready_held, ready_of, ready_value, reads_now, same_kept, within_at}
+use Rattle.reg_alloc.proofs.Knowing.{Clean, clean_behind, ready_based, ready_held, ready_of, ready_value, reads_now, same_kept, within_at}
 use Rattle.reg_alloc.proofs.Placing.{fetched_past, none_left, site_at}
 use Rattle.reg_alloc.proofs.Sizes.{block_size}
 use Rattle.reg_alloc.proofs.Standing.{blocks_stand, instrs_counted}

@@ -1,5 +1,5 @@
 -- A lane alone at a word that only computes: it makes of the registers and the frame what the word does.
-use Rattle.std.proofs.Common.{◌≡◌, ℕ, zero, suc, ◌+◌, ◌-◌, ◌*◌, ◌/◌, ◌%◌, ◌^◌, ◌<◌, true, false, nat_le, nat_eq, List, [], ◌∷◌, map, ap, ◌∙◌, arith, refl, Some, Ok}
+use Rattle.std.proofs.Common.{◌≡◌, ℕ, zero, suc, ◌+◌, ◌-◌, ◌*◌, ◌/◌, ◌%◌, ◌<◌, true, false, nat_le, nat_eq, List, [], ◌∷◌, map, ap, ◌∙◌, arith, refl, Some, Ok}
 use Rattle.std.specs.Prelude.{slice_get}
 use Rattle.std.proofs.lemmas.Bool.{le-leb}
 use Rattle.vx_base.specs.declared.types.Alu.{Alu}
@@ -7,14 +7,13 @@ use Rattle.vx_base.specs.declared.types.Alu.TheVariants as alu
 use Rattle.vx_base.specs.declared.types.Size.TheVariants.{Four}
 use Rattle.item_acts.specs.declared.acts.Place.{Place}
 use Rattle.item_acts.specs.Machine.{Go}
-use Rattle.vx_layout.specs.Addresses.{Block, Own, block_start}
+use Rattle.vx_layout.specs.Addresses.{block_start}
 use Rattle.vx_isa.specs.Effects.{address_at}
 use Rattle.vx_isa.specs.Words.{Fits, word_of}
 use Rattle.vx_isa.specs.Warps.{Registers, value_in}
 use Rattle.vx_isa.specs.WarpSteps.{code_start, decoded, fetched, read_as}
 use Rattle.vx_isa.specs.declared.instr.Instr.{Instr}
 use Rattle.vx_isa.proofs.RowLaws.{row_of_word_of}
-use Rattle.vcode.specs.Machine.{Around}
 use Rattle.reg_alloc.specs.Plain.{Plain, GetSlot, PutSlot, GetBlock, High, AddTo, ShiftLeft, Calculate, GetLane, GetWarp, alu_instr, does, held, instr_of}
 use Rattle.reg_alloc.specs.Blocks.{address_of_word}
 use Rattle.reg_alloc.specs.Keeping.{Stands, around_in}

@@ -1,5 +1,5 @@
 -- Both lanes go along through each kind of operation that goes on to the place behind it.
-use Rattle.std.proofs.Common.{◌≡◌, ℕ, suc, ◌+◌, ◌*◌, ◌%◌, ◌<◌, ◌≤◌, ◌^◌, Bool, true, false, if◌then◌else◌, inl, List, [], ◌∷◌, length, drop, ap, sym, subst, ◌∙◌, arith, refl}
+use Rattle.std.proofs.Common.{◌≡◌, ℕ, suc, ◌+◌, ◌*◌, ◌%◌, ◌<◌, ◌≤◌, ◌^◌, Bool, true, false, inl, List, [], ◌∷◌, length, drop, ap, subst, ◌∙◌, arith, refl}
 use Rattle.vx_base.specs.Bytes.{bytes_of}
 use Rattle.vx_base.specs.Values.{alu_value_of, fitted}
 use Rattle.vx_base.specs.declared.types.Alu.{Alu}
@@ -9,43 +9,38 @@ use Rattle.vx_base.specs.declared.types.Elem.TheVariants as elem
 use Rattle.vx_base.specs.declared.types.Size.TheVariants.{Four}
 use Rattle.vx_base.proofs.ValueLaws.{alu_value_of-lt, fitted-lt}
 use Rattle.item_acts.specs.declared.acts.Place.{Place}
-use Rattle.item_acts.specs.declared.acts.Action.TheVariants.{Load, Store, Barrier}
 use Rattle.item_acts.specs.Launches.{put_at}
-use Rattle.item_acts.specs.Machine.{Go, Ask}
+use Rattle.item_acts.specs.Machine.{Go}
 use Rattle.item_settings.specs.Settings.{elem_size, low_bytes}
-use Rattle.step_machine.specs.Sims.{GoAlong, BothAsk}
 use Rattle.step_machine.specs.Stacks.{top, under}
 use Rattle.kir.specs.Machine.{value}
 use Rattle.kir.specs.Trees.{Operand}
-use Rattle.vx_layout.specs.Addresses.{Where, Array, block_start, block_words}
+use Rattle.vx_layout.specs.Addresses.{block_start, block_words}
 use Rattle.vx_isa.specs.Effects.{address_at}
 use Rattle.vx_isa.specs.Warps.{loaded, value_in, with_register}
 use Rattle.vx_isa.specs.declared.instr.Instr.{Instr}
 use Rattle.vx_isa.specs.declared.instr.Instr.TheVariants as instr
 use Rattle.vcode.specs.declared.ops.Csr.{Csr}
 use Rattle.vcode.specs.declared.ops.Csr.TheVariants as csr
-use Rattle.vcode.specs.Code.{VOp, Fresh, Copy, Compute, Cut, Word, WordAt, Learn, Fetch, Write, Split, Join, Pred, Wspawn, Bar, Enter}
-use Rattle.vcode.specs.Machine.{Lane, lane, learned, unlearned}
+use Rattle.vcode.specs.Code.{VOp, Fresh, Copy, Compute, Cut, Word, WordAt, Learn, Split, Join, Pred, Wspawn, Enter}
+use Rattle.vcode.specs.Machine.{learned, unlearned}
 use Rattle.vcode.specs.Words.{op_words, words}
 use Rattle.simt_lowering.specs.Bounds.{AreWithin}
 use Rattle.simt_lowering.specs.Runs.{and_read}
-use Rattle.reg_alloc.specs.Plain.{Held, Plain, Calculate, GetBlock, GetSlot, PutSlot, ShiftLeft, block_base, do_all, does, frame_base, held, instr_of, left, lower, made, right, set, upper}
-use Rattle.reg_alloc.specs.Blocks.{address_of_word, block, compute_word, csr_number, cut_word, fresh_before, load_word, operand_before, pair_before, register_of, right_before, spare_bits, store_word}
+use Rattle.reg_alloc.specs.Plain.{Held, Plain, Calculate, GetBlock, GetSlot, PutSlot, ShiftLeft, block_base, do_all, does, frame_base, held, instr_of, left, made, right, set}
+use Rattle.reg_alloc.specs.Blocks.{address_of_word, block, csr_number, cut_word, fresh_before, load_word, operand_before, pair_before, register_of, right_before, spare_bits, store_word}
 use Rattle.reg_alloc.specs.Layout.{instrs_from, instrs_of, word_of_place}
-use Rattle.reg_alloc.specs.Alone.{ImageLane, Setting, goes, goes_with, image_lane, image_step, instr_step, learns, load_from, next_pc, store_to}
+use Rattle.reg_alloc.specs.Alone.{ImageLane, Setting, goes_with, image_lane, instr_step, load_from, next_pc, store_to}
 use Rattle.reg_alloc.specs.Keeping.{AreWords, IsSettingOf, around_in}
-use Rattle.reg_alloc.proofs.Acting.{plain_rest}
 use Rattle.reg_alloc.proofs.Bringing.{based_for, brought, frame_kept, operand_brings, operand_reaches, operand_value, others_kept}
-use Rattle.reg_alloc.proofs.ComputingAlong.{both_brought, both_frame, compute_along, frame_register}
+use Rattle.reg_alloc.proofs.ComputingAlong.{both_brought, compute_along, frame_register}
 use Rattle.reg_alloc.proofs.Computing.{right_others}
-use Rattle.reg_alloc.proofs.Cutting.{cut_fits, cut_value, frame_found, whole_word}
-use Rattle.reg_alloc.proofs.Going.{Along, From, all_fit, code_goes, code_step, ended, free, goes_on, kept, near_end, start_in}
-use Rattle.reg_alloc.proofs.Goings.{ReachAll, lane_at, rest_at}
-use Rattle.reg_alloc.proofs.Knowing.{Clean, Same, base_now, behind_read, block_now, clean_behind, named_now, ready_based, ready_held, ready_of, ready_small, ready_value, reads_now, same_kept, same_put, within_at}
-use Rattle.reg_alloc.proofs.Placing.{next_word, words_left}
+use Rattle.reg_alloc.proofs.Cutting.{cut_fits, cut_value, frame_found}
+use Rattle.reg_alloc.proofs.Going.{Along, From, all_fit, code_step, ended, free, goes_on, kept, near_end, start_in}
+use Rattle.reg_alloc.proofs.Goings.{lane_at}
+use Rattle.reg_alloc.proofs.Knowing.{base_now, behind_read, block_now, ready_based, ready_held, ready_of, ready_small, ready_value, reads_now, same_kept, same_put, within_at}
 use Rattle.reg_alloc.proofs.Sizes.{block_size}
 use Rattle.reg_alloc.proofs.Standing.{blocks_stand}
-use Rattle.reg_alloc.proofs.Through.{Through, before, stored, word_goes}
 use Rattle.reg_alloc.proofs.Walking.{plain_step}
 
 -- ---- what single words are to a lane
