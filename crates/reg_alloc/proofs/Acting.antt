@@ -14,7 +14,7 @@ use Rattle.reg_alloc.specs.Alone.{ImageLane, Setting, fetched_step, goes_with, i
 use Rattle.reg_alloc.proofs.Bringing.{has_value}
 use Rattle.reg_alloc.proofs.Fitting.{AllFit}
 use Rattle.reg_alloc.proofs.Goings.{ReachAll, lane_at, plain_along, plain_goes, rest_at, step_at}
-use Rattle.reg_alloc.proofs.Walking.{Stands, around_in}
+use Rattle.reg_alloc.specs.Keeping.{Stands, around_in}
 
 -- what is left of the words behind those that compute
 pub plain_rest : (is : List Instr) (ws : List Plain) (rest : List Instr) (j : ℕ) → drop j is ≡ plain_onto ws rest → drop (j + length ws) is ≡ rest

@@ -35,6 +35,15 @@ frame_kept rd (VariableOf r) h = refl
 frame_kept rd (NumberOf zero) h = refl
 frame_kept rd (NumberOf (suc n)) h = refl
 
+-- a register's word is in a frame whose address stands in its register; a number is in none
+abbrev pub IsBased : ℕ → Held → Operand → Type 0
+IsBased start h (VariableOf r) = h.registers 4 ≡ start
+IsBased start h (NumberOf n) = Unit {0}
+
+pub based_for : (start : ℕ) (h : Held) (a : Operand) → h.registers 4 ≡ start → IsBased start h a
+based_for start h (VariableOf r) based = based
+based_for start h (NumberOf n) based = tt
+
 module _ (rd : ℕ) (same : nat_eq rd rd ≡ true) (some : nat_eq rd 0 ≡ false) (low : (nat_lt 0 rd && nat_lt rd 32) ≡ true) where
   pub has_value : (v : ℕ) (xs : Registers) → value_in (with_register rd v xs) rd ≡ v
   has_value v xs = rw some (rw same (rw low refl))
@@ -62,7 +71,7 @@ module _ (rd : ℕ) (same : nat_eq rd rd ≡ true) (some : nat_eq rd 0 ≡ false
       ]
 
   -- they reach what they read
-  pub operand_reaches : (at : Around) (slots start : ℕ) (a : Operand) (ws : List Plain) (h : Held) → IsBelow slots a → h.registers 4 ≡ start
+  pub operand_reaches : (at : Around) (slots start : ℕ) (a : Operand) (ws : List Plain) (h : Held) → IsBelow slots a → IsBased start h a
       → ReachAll slots start at ws (brought rd a h) → ReachAll slots start at (operand_before rd a ws) h
   operand_reaches at slots start (VariableOf r) ws h less based reach = ((based, less), reach)
   operand_reaches at slots start (NumberOf zero) ws h less based reach = reach
@@ -75,10 +84,10 @@ module _ (rd : ℕ) (same : nat_eq rd rd ≡ true) (some : nat_eq rd 0 ≡ false
       ]
 
   -- the register of an operand has its value
-  pub operand_value : (a : Operand) (h : Held) → ((r : ℕ) → h.frame r < 2 ^ 32) → value_in (brought rd a h).registers (register_of rd a) ≡ value h.frame a
-  operand_value (VariableOf r) h words = has_value (h.frame r % 2 ^ 32) h.registers ∙ (let word = words r in omega (arith, word))
-  operand_value (NumberOf zero) h words = refl
-  operand_value (NumberOf (suc n)) h words = has_value (suc n) h.registers
+  pub operand_value : (a : Operand) (h : Held) → value h.frame a < 2 ^ 32 → value_in (brought rd a h).registers (register_of rd a) ≡ value h.frame a
+  operand_value (VariableOf r) h word = has_value (h.frame r % 2 ^ 32) h.registers ∙ omega (arith, word)
+  operand_value (NumberOf zero) h word = refl
+  operand_value (NumberOf (suc n)) h word = has_value (suc n) h.registers
 
   -- every other register is as it was
   pub others_kept : (a : Operand) (h : Held) (r : ℕ) → nat_eq r rd ≡ false → (brought rd a h).registers r ≡ h.registers r

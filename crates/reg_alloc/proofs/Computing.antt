@@ -13,7 +13,7 @@ use Rattle.vcode.specs.Machine.{Around}
 use Rattle.reg_alloc.specs.Plain.{Held, Plain, do_all, made, right}
 use Rattle.reg_alloc.specs.Blocks.{compute_word, number_before, number_register, register_of, right_before, shift_before}
 use Rattle.reg_alloc.specs.Alone.{ImageLane, Setting, goes_with, instr_step, next_pc}
-use Rattle.reg_alloc.proofs.Bringing.{brought, frame_kept, operand_brings, operand_reaches, operand_value, others_kept}
+use Rattle.reg_alloc.proofs.Bringing.{based_for, brought, frame_kept, operand_brings, operand_reaches, operand_value, others_kept}
 use Rattle.reg_alloc.proofs.Goings.{ReachAll}
 
 -- the lane once the words of the second operand are done: a number to shift by that stands in the instruction needs none
@@ -70,7 +70,7 @@ right_brings at slots alu.Remu a ws h less = operand_brings right refl refl refl
 shift_reaches : (at : Around) (slots start n : ℕ) (ws : List Plain) (h : Held) → n < 2 ^ 32 → h.registers 4 ≡ start
     → ReachAll slots start at ws (shift_brought n h) → ReachAll slots start at (shift_before n ws) h
 shift_reaches at slots start n ws h less based =
-    let large = operand_reaches right refl refl refl at slots start (NumberOf n) ws h less based in
+    let large = operand_reaches right refl refl refl at slots start (NumberOf n) ws h less tt in
     elim (nat_lt n 32) as (λ b. ReachAll slots start at ws (if b then h else brought right (NumberOf n) h) → ReachAll slots start at (if b then ws else number_before right n ws) h) [
       | true ↦ λ reach. reach
       | false ↦ large
@@ -78,58 +78,58 @@ shift_reaches at slots start n ws h less based =
 
 pub right_reaches : (at : Around) (slots start : ℕ) (op : Alu) (a : Operand) (ws : List Plain) (h : Held) → IsBelow slots a → h.registers 4 ≡ start
     → ReachAll slots start at ws (right_brought op a h) → ReachAll slots start at (right_before op a ws) h
-right_reaches at slots start alu.Add a ws h less based reach = operand_reaches right refl refl refl at slots start a ws h less based reach
-right_reaches at slots start alu.Sub a ws h less based reach = operand_reaches right refl refl refl at slots start a ws h less based reach
-right_reaches at slots start alu.Sll (VariableOf r) ws h less based reach = operand_reaches right refl refl refl at slots start (VariableOf r) ws h less based reach
+right_reaches at slots start alu.Add a ws h less based reach = operand_reaches right refl refl refl at slots start a ws h less (based_for start h a based) reach
+right_reaches at slots start alu.Sub a ws h less based reach = operand_reaches right refl refl refl at slots start a ws h less (based_for start h a based) reach
+right_reaches at slots start alu.Sll (VariableOf r) ws h less based reach = operand_reaches right refl refl refl at slots start (VariableOf r) ws h less (based_for start h (VariableOf r) based) reach
 right_reaches at slots start alu.Sll (NumberOf n) ws h less based reach = shift_reaches at slots start n ws h less based reach
-right_reaches at slots start alu.Slt a ws h less based reach = operand_reaches right refl refl refl at slots start a ws h less based reach
-right_reaches at slots start alu.Sltu a ws h less based reach = operand_reaches right refl refl refl at slots start a ws h less based reach
-right_reaches at slots start alu.Xor a ws h less based reach = operand_reaches right refl refl refl at slots start a ws h less based reach
-right_reaches at slots start alu.Srl (VariableOf r) ws h less based reach = operand_reaches right refl refl refl at slots start (VariableOf r) ws h less based reach
+right_reaches at slots start alu.Slt a ws h less based reach = operand_reaches right refl refl refl at slots start a ws h less (based_for start h a based) reach
+right_reaches at slots start alu.Sltu a ws h less based reach = operand_reaches right refl refl refl at slots start a ws h less (based_for start h a based) reach
+right_reaches at slots start alu.Xor a ws h less based reach = operand_reaches right refl refl refl at slots start a ws h less (based_for start h a based) reach
+right_reaches at slots start alu.Srl (VariableOf r) ws h less based reach = operand_reaches right refl refl refl at slots start (VariableOf r) ws h less (based_for start h (VariableOf r) based) reach
 right_reaches at slots start alu.Srl (NumberOf n) ws h less based reach = shift_reaches at slots start n ws h less based reach
-right_reaches at slots start alu.Sra (VariableOf r) ws h less based reach = operand_reaches right refl refl refl at slots start (VariableOf r) ws h less based reach
+right_reaches at slots start alu.Sra (VariableOf r) ws h less based reach = operand_reaches right refl refl refl at slots start (VariableOf r) ws h less (based_for start h (VariableOf r) based) reach
 right_reaches at slots start alu.Sra (NumberOf n) ws h less based reach = shift_reaches at slots start n ws h less based reach
-right_reaches at slots start alu.Or a ws h less based reach = operand_reaches right refl refl refl at slots start a ws h less based reach
-right_reaches at slots start alu.And a ws h less based reach = operand_reaches right refl refl refl at slots start a ws h less based reach
-right_reaches at slots start alu.Mul a ws h less based reach = operand_reaches right refl refl refl at slots start a ws h less based reach
-right_reaches at slots start alu.Mulh a ws h less based reach = operand_reaches right refl refl refl at slots start a ws h less based reach
-right_reaches at slots start alu.Mulhsu a ws h less based reach = operand_reaches right refl refl refl at slots start a ws h less based reach
-right_reaches at slots start alu.Mulhu a ws h less based reach = operand_reaches right refl refl refl at slots start a ws h less based reach
-right_reaches at slots start alu.Div a ws h less based reach = operand_reaches right refl refl refl at slots start a ws h less based reach
-right_reaches at slots start alu.Divu a ws h less based reach = operand_reaches right refl refl refl at slots start a ws h less based reach
-right_reaches at slots start alu.Rem a ws h less based reach = operand_reaches right refl refl refl at slots start a ws h less based reach
-right_reaches at slots start alu.Remu a ws h less based reach = operand_reaches right refl refl refl at slots start a ws h less based reach
+right_reaches at slots start alu.Or a ws h less based reach = operand_reaches right refl refl refl at slots start a ws h less (based_for start h a based) reach
+right_reaches at slots start alu.And a ws h less based reach = operand_reaches right refl refl refl at slots start a ws h less (based_for start h a based) reach
+right_reaches at slots start alu.Mul a ws h less based reach = operand_reaches right refl refl refl at slots start a ws h less (based_for start h a based) reach
+right_reaches at slots start alu.Mulh a ws h less based reach = operand_reaches right refl refl refl at slots start a ws h less (based_for start h a based) reach
+right_reaches at slots start alu.Mulhsu a ws h less based reach = operand_reaches right refl refl refl at slots start a ws h less (based_for start h a based) reach
+right_reaches at slots start alu.Mulhu a ws h less based reach = operand_reaches right refl refl refl at slots start a ws h less (based_for start h a based) reach
+right_reaches at slots start alu.Div a ws h less based reach = operand_reaches right refl refl refl at slots start a ws h less (based_for start h a based) reach
+right_reaches at slots start alu.Divu a ws h less based reach = operand_reaches right refl refl refl at slots start a ws h less (based_for start h a based) reach
+right_reaches at slots start alu.Rem a ws h less based reach = operand_reaches right refl refl refl at slots start a ws h less (based_for start h a based) reach
+right_reaches at slots start alu.Remu a ws h less based reach = operand_reaches right refl refl refl at slots start a ws h less (based_for start h a based) reach
 
-shift_valued : (n : ℕ) (h : Held) → ((r : ℕ) → h.frame r < 2 ^ 32) → shift_value n (shift_brought n h).registers ≡ n
-shift_valued n h words =
-    let large = operand_value right refl refl refl (NumberOf n) h words in
+shift_valued : (n : ℕ) (h : Held) → n < 2 ^ 32 → shift_value n (shift_brought n h).registers ≡ n
+shift_valued n h word =
+    let large = operand_value right refl refl refl (NumberOf n) h word in
     elim (nat_lt n 32) as (λ b. (if b then n else value_in (if b then h else brought right (NumberOf n) h).registers (number_register right n)) ≡ n) [
       | true ↦ refl
       | false ↦ large
     ]
 
-pub right_value : (op : Alu) (a : Operand) (h : Held) → ((r : ℕ) → h.frame r < 2 ^ 32) → second_value op a (right_brought op a h).registers ≡ value h.frame a
-right_value alu.Add a h words = operand_value right refl refl refl a h words
-right_value alu.Sub a h words = operand_value right refl refl refl a h words
-right_value alu.Sll (VariableOf r) h words = operand_value right refl refl refl (VariableOf r) h words
-right_value alu.Sll (NumberOf n) h words = shift_valued n h words
-right_value alu.Slt a h words = operand_value right refl refl refl a h words
-right_value alu.Sltu a h words = operand_value right refl refl refl a h words
-right_value alu.Xor a h words = operand_value right refl refl refl a h words
-right_value alu.Srl (VariableOf r) h words = operand_value right refl refl refl (VariableOf r) h words
-right_value alu.Srl (NumberOf n) h words = shift_valued n h words
-right_value alu.Sra (VariableOf r) h words = operand_value right refl refl refl (VariableOf r) h words
-right_value alu.Sra (NumberOf n) h words = shift_valued n h words
-right_value alu.Or a h words = operand_value right refl refl refl a h words
-right_value alu.And a h words = operand_value right refl refl refl a h words
-right_value alu.Mul a h words = operand_value right refl refl refl a h words
-right_value alu.Mulh a h words = operand_value right refl refl refl a h words
-right_value alu.Mulhsu a h words = operand_value right refl refl refl a h words
-right_value alu.Mulhu a h words = operand_value right refl refl refl a h words
-right_value alu.Div a h words = operand_value right refl refl refl a h words
-right_value alu.Divu a h words = operand_value right refl refl refl a h words
-right_value alu.Rem a h words = operand_value right refl refl refl a h words
-right_value alu.Remu a h words = operand_value right refl refl refl a h words
+pub right_value : (op : Alu) (a : Operand) (h : Held) → value h.frame a < 2 ^ 32 → second_value op a (right_brought op a h).registers ≡ value h.frame a
+right_value alu.Add a h word = operand_value right refl refl refl a h word
+right_value alu.Sub a h word = operand_value right refl refl refl a h word
+right_value alu.Sll (VariableOf r) h word = operand_value right refl refl refl (VariableOf r) h word
+right_value alu.Sll (NumberOf n) h word = shift_valued n h word
+right_value alu.Slt a h word = operand_value right refl refl refl a h word
+right_value alu.Sltu a h word = operand_value right refl refl refl a h word
+right_value alu.Xor a h word = operand_value right refl refl refl a h word
+right_value alu.Srl (VariableOf r) h word = operand_value right refl refl refl (VariableOf r) h word
+right_value alu.Srl (NumberOf n) h word = shift_valued n h word
+right_value alu.Sra (VariableOf r) h word = operand_value right refl refl refl (VariableOf r) h word
+right_value alu.Sra (NumberOf n) h word = shift_valued n h word
+right_value alu.Or a h word = operand_value right refl refl refl a h word
+right_value alu.And a h word = operand_value right refl refl refl a h word
+right_value alu.Mul a h word = operand_value right refl refl refl a h word
+right_value alu.Mulh a h word = operand_value right refl refl refl a h word
+right_value alu.Mulhsu a h word = operand_value right refl refl refl a h word
+right_value alu.Mulhu a h word = operand_value right refl refl refl a h word
+right_value alu.Div a h word = operand_value right refl refl refl a h word
+right_value alu.Divu a h word = operand_value right refl refl refl a h word
+right_value alu.Rem a h word = operand_value right refl refl refl a h word
+right_value alu.Remu a h word = operand_value right refl refl refl a h word
 
 shift_others : (n : ℕ) (h : Held) (r : ℕ) → nat_eq r right ≡ false → (shift_brought n h).registers r ≡ h.registers r
 shift_others n h r other =

@@ -13,7 +13,8 @@ use Rattle.reg_alloc.specs.Blocks.{address_of_word}
 use Rattle.reg_alloc.specs.Layout.{plain_onto}
 use Rattle.reg_alloc.specs.Alone.{ImageLane, Setting, fetched_step, image_lane, image_step, next_pc}
 use Rattle.reg_alloc.proofs.Fitting.{AllFit, fits_at}
-use Rattle.reg_alloc.proofs.Walking.{Reaches, Stands, around_in, fetched_at, plain_step}
+use Rattle.reg_alloc.specs.Keeping.{Stands, around_in}
+use Rattle.reg_alloc.proofs.Walking.{Reaches, fetched_at, plain_step}
 
 -- the first of the words from a number on
 pub first_at : (is rest : List Instr) (i : Instr) (j : ℕ) → drop j is ≡ i ∷ rest → slice_get is j ≡ Some i

@@ -12,4 +12,15 @@ pub mod Bringing
 pub mod Computing
 pub mod Acting
 pub mod ComputingAlong
+pub mod Bare
+pub mod Placing
+pub mod Through
+pub mod Cutting
+pub mod Knowing
+pub mod Going
+pub mod Forward
+pub mod Asking
+pub mod Turning
+pub mod KeptLanes
+pub mod Basing
 pub mod Worked

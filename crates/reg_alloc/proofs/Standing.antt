@@ -85,12 +85,15 @@ count_from slots starts k (op ∷ ops) =
     let h'' = count_from slots starts (op_words op + k) ops in
     omega (arith, h, h', h'')
 
+pub instrs_counted : (slots : ℕ) (ops : List VOp) → length (instrs_of slots ops) ≡ words ops
+instrs_counted slots ops = count_from slots (word_of_place ops) 0 ops
+
 map_length : (is : List Instr) → length (map word_of is) ≡ length is
 map_length [] = refl
 map_length (i ∷ is) = ap suc (map_length is)
 
 pub words_are_counted : WordsAreCounted
-words_are_counted slots ops = map_length (instrs_of slots ops) ∙ count_from slots (word_of_place ops) 0 ops
+words_are_counted slots ops = map_length (instrs_of slots ops) ∙ instrs_counted slots ops
 
 pub places_are_within : PlacesAreWithin
 places_are_within [] p = omega arith

@@ -1,5 +1,5 @@
 -- A lane alone at a word that only computes: it makes of the registers and the frame what the word does.
-use Rattle.std.proofs.Common.{◌≡◌, ℕ, zero, suc, ◌+◌, ◌-◌, ◌*◌, ◌/◌, ◌%◌, ◌^◌, ◌<◌, true, false, nat_le, nat_eq, List, [], ◌∷◌, map, ap, ◌∙◌, arith, refl, Some, Ok}
+use Rattle.std.proofs.Common.{◌≡◌, ℕ, zero, suc, ◌+◌, ◌-◌, ◌*◌, ◌/◌, ◌%◌, ◌<◌, true, false, nat_le, nat_eq, List, [], ◌∷◌, map, ap, ◌∙◌, arith, refl, Some, Ok}
 use Rattle.std.specs.Prelude.{slice_get}
 use Rattle.std.proofs.lemmas.Bool.{le-leb}
 use Rattle.vx_base.specs.declared.types.Alu.{Alu}
@@ -7,16 +7,16 @@ use Rattle.vx_base.specs.declared.types.Alu.TheVariants as alu
 use Rattle.vx_base.specs.declared.types.Size.TheVariants.{Four}
 use Rattle.item_acts.specs.declared.acts.Place.{Place}
 use Rattle.item_acts.specs.Machine.{Go}
-use Rattle.vx_layout.specs.Addresses.{Block, Own, block_start}
+use Rattle.vx_layout.specs.Addresses.{block_start}
 use Rattle.vx_isa.specs.Effects.{address_at}
 use Rattle.vx_isa.specs.Words.{Fits, word_of}
 use Rattle.vx_isa.specs.Warps.{Registers, value_in}
 use Rattle.vx_isa.specs.WarpSteps.{code_start, decoded, fetched, read_as}
 use Rattle.vx_isa.specs.declared.instr.Instr.{Instr}
 use Rattle.vx_isa.proofs.RowLaws.{row_of_word_of}
-use Rattle.vcode.specs.Machine.{Around}
 use Rattle.reg_alloc.specs.Plain.{Plain, GetSlot, PutSlot, GetBlock, High, AddTo, ShiftLeft, Calculate, GetLane, GetWarp, alu_instr, does, held, instr_of}
 use Rattle.reg_alloc.specs.Blocks.{address_of_word}
+use Rattle.reg_alloc.specs.Keeping.{Stands, around_in}
 use Rattle.reg_alloc.specs.Alone.{ImageLane, Setting, image_lane, instr_step, load_from, next_pc, store_to}
 
 mapped : (is : List Instr) (k : ℕ) (i : Instr) → slice_get is k ≡ Some i → slice_get (map word_of is) k ≡ Some (word_of i)
@@ -33,16 +33,6 @@ fetched_at is k i e fits =
     let whole : nat_eq (address_of_word k % 4) 0 ≡ true = ap (λ n. nat_eq n 0) fourth in
     let index : (address_of_word k - code_start) / 4 ≡ k = omega arith in
     rw low (rw whole (ap (λ n. decoded (slice_get (map word_of is) n)) index ∙ ap decoded (mapped is k i e) ∙ ap read_as (row_of_word_of i fits)))
-
--- what stands around the lane, for the words that compute
-abbrev pub around_in : Setting → (ℕ → Place) → Around
-around_in k place = record { block = k.block; warp = k.warp; number = k.number; place = place }
-
--- The launch block and the frame of so many words stand at their addresses.
-pub record Stands (k : Setting) (slots start : ℕ) : Type 0 where
-  pub block_word : (w : ℕ) → w < 64 → k.at (block_start + 4 * w) ≡ Block w
-  pub own_word : (r : ℕ) → r < slots → k.at (start + 4 * r) ≡ Own r
-  pub small : start + 4 * slots < 2 ^ 32
 
 -- a word of the frame or of the launch block is reached by the register that has its first address
 abbrev pub Reaches : ℕ → ℕ → Registers → Plain → Type 0

@@ -1,14 +1,19 @@
 -- What is said of the words of a kernel: they stand block by block, each jump leads to the first word of a block, and each word is read as the
 -- instruction that it was made of.
-use Rattle.std.specs.Prelude.{◌≡◌, ℕ, ◌+◌, ◌≤◌, List, ◌∷◌, drop, length, map, slice_get, Some}
+use Rattle.std.specs.Prelude.{◌≡◌, ℕ, ◌+◌, ◌≤◌, Bool, true, false, List, ◌∷◌, drop, length, map, slice_get, Some}
+use Rattle.item_acts.specs.declared.acts.Place.{Place}
 use Rattle.vx_isa.specs.Effects.{address_at}
 use Rattle.vx_isa.specs.Rows.{row_of}
+use Rattle.vx_isa.specs.Warps.{Registers}
 use Rattle.vx_isa.specs.Words.{Fits, word_of}
 use Rattle.vx_isa.specs.declared.instr.Instr.{Instr}
-use Rattle.vcode.specs.Code.{VOp}
+use Rattle.vcode.specs.Code.{VOp, Fresh}
+use Rattle.vcode.specs.Machine.{Around, Lane, step}
 use Rattle.vcode.specs.Words.{op_words, words}
 use Rattle.simt_lowering.specs.Bounds.{AreWithin}
+use Rattle.reg_alloc.specs.Alone.{Setting, image_lane, image_step}
 use Rattle.reg_alloc.specs.Blocks.{address_of_word, block, distance}
+use Rattle.reg_alloc.specs.Keeping.{AreWords, AsksBare, IsSettingOf, Passes, RunsClean, around_in, first_needs}
 use Rattle.reg_alloc.specs.Layout.{block_onto, instrs_from, instrs_of, word_of_place, words_of}
 
 -- The block of each operation stands where its place begins, and the blocks of the operations behind it stand behind it.
@@ -41,3 +46,16 @@ JumpsLand = (from to : ℕ) → from ≤ 65536 → to ≤ 65536 → address_at (
 abbrev pub WordsDecode : Type 0
 WordsDecode = (slots : ℕ) (ops : List VOp) → slots ≤ 256 → AreWithin slots ops → words ops ≤ 65536
     → (k : ℕ) (i : Instr) → slice_get (instrs_of slots ops) k ≡ Some i → Fits i × (row_of (word_of i) ≡ Some i)
+
+-- A lane alone at the words of at most 256 registers and 65,536 words asks for what the lane of the code asks for, and for nothing else, a barrier's
+-- turns left out: from each place, with any registers and any frame, if the lane of the code runs clean from there.
+abbrev pub LanesAreKept : Type 0
+LanesAreKept = (slots : ℕ) (ops : List VOp) → slots ≤ 256 → AreWithin slots ops → words ops ≤ 65536
+    → (k : Setting) (place : ℕ → Place) → IsSettingOf slots ops k → (s : Lane) → AreWords s.numbers → RunsClean k place ops s
+    → (registers : Registers) (frame : ℕ → ℕ)
+    → AsksBare (step (around_in k place) ops) (image_step k) s (image_lane (address_of_word (word_of_place ops s.place)) registers frame s.numbers)
+
+-- a lane that begins where a warp may begin has passed such a place before it uses an address that is found there
+abbrev pub BasedFromBegin : Type 0
+BasedFromBegin = (at : Around) (ops rest : List VOp) (s : Lane) → drop s.place ops ≡ Fresh ∷ rest
+    → (n : ℕ) (t : Lane) (based : Bool) → Passes at ops n s false t based → first_needs (drop t.place ops) ≡ true → based ≡ true

@@ -1,5 +1,5 @@
 //! Laws of the words of a kernel, each as a contract. The functions themselves do nothing.
-ghost use Rattle.reg_alloc.specs.Laws.{BlocksStand, JumpsLand, PlacesAreWithin, WordsAreCounted, WordsDecode};
+ghost use Rattle.reg_alloc.specs.Laws.{BasedFromBegin, BlocksStand, JumpsLand, LanesAreKept, PlacesAreWithin, WordsAreCounted, WordsDecode};
 
 /// The block of each operation stands where its place begins.
 pub fn blocks_stand()
@@ -24,4 +24,14 @@ pub fn jumps_land()
 /// Each word of a kernel of at most 256 registers and 65,536 words is read as the instruction that it was made of.
 pub fn words_decode()
     ensures { WordsDecode }
+{}
+
+/// A lane alone at the words of a kernel asks for what the lane of the code asks for, and for nothing else, a barrier's turns left out.
+pub fn lanes_are_kept()
+    ensures { LanesAreKept }
+{}
+
+/// A lane that begins where a warp may begin has passed such a place before it uses an address that is found there.
+pub fn based_from_begin()
+    ensures { BasedFromBegin }
 {}
