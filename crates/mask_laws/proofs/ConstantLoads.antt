@@ -69,6 +69,9 @@ element_inside Ushort i count below = omega (arith, below)
 element_inside Int i count below = omega (arith, below)
 element_inside Uint i count below = omega (arith, below)
 
+same_bit : (x y : Bool) → x ≡ y → ◌≡◌ {A = ℕ} (if x then 1 else 0) (if y then 1 else 0)
+same_bit x y e = subst (λ z. ◌≡◌ {A = ℕ} (if x then 1 else 0) (if z then 1 else 0)) e refl
+
 -- operations that a test leaves out or not
 branch_op : (u : Bool) (op : VOp) (q e j : ℕ) (t : Operand) (fs : List Frame) (uni ag : ℕ → Bool) → (branch_spot u op q e j t fs uni ag).op ≡ op
 branch_op true op q e j t fs uni ag = refl
@@ -288,7 +291,6 @@ module _ (marks : ℕ → Bool) (code : KirCode) (range : Range) (bounds : List 
       no : false ≡ true → ⊥
       no h = absurd (cc)
     param_load n fs j (Some param) p c is constant e checked typed next rs ts ns passes =
-        let w : ℕ = at.block (16 + 2 * j) in
         let e1 = behind_spot whole _ _ p e in
         let e2 = behind_spot whole _ _ (suc p) e1 in
         let e3 = behind_spot whole _ _ (suc (suc p)) e2 in
@@ -329,7 +331,7 @@ module _ (marks : ℕ → Bool) (code : KirCode) (range : Range) (bounds : List 
         put_at_same (own k 0) (alu_value_of Sltu (value (counted_rs rs) a) (counted_rs rs (own k 0))) (counted_rs rs)
         ∙ ap (λ x. alu_value_of Sltu x (counted_rs rs (own k 0))) (unread (own k 0) (setting.array array).count a rs (reads_high n0 (own k 0) a below (own_high 0)))
         ∙ ap (alu_value_of Sltu (value rs a)) (put_at_same (own k 0) (setting.array array).count rs)
-        ∙ ap (λ x. if x then 1 else 0) e
+        ∙ same_bit (nat_lt (value rs a) (setting.array array).count) b e
 
     tested_same : (rs : ℕ → ℕ) → value (tested_rs rs) a ≡ value rs a
     tested_same rs =
@@ -437,30 +439,43 @@ module _ (marks : ℕ → Bool) (code : KirCode) (range : Range) (bounds : List 
     abbrev inner : List Frame
     inner = loop_frame u (suc p) pred_at out_at m t ∷ fs
 
-    e1 : drop (suc p) whole ≡ keep_spots u (suc p) out_at m fs k.marks _
-    e1 = behind_spot whole _ _ p e
+    -- what stands behind its operations and its parts
+    abbrev from_again : List Spot
+    from_again = spot (Again step_at') (Straight inner) k.marks ∷ c
 
-    e2 : drop (past u (suc p)) whole ≡ spot (Goto head_at) (Straight inner) k.marks ∷ _
-    e2 = keep_ends u (suc p) out_at m fs k.marks (suc p) _ e1
+    abbrev from_test : List Spot
+    from_test = test_spot u (Leaves t out_at) (suc p) pred_at out_at m t fs k.marks ∷ body.label inner body_at from_again
 
-    first : Part [] [] step_at' (step.end step_at') _
-    first = step_good inner step_at' _ (behind_spot whole _ _ (past u (suc p)) e2)
+    abbrev from_pred : List Spot
+    from_pred = pred_spots u (suc p) pred_at out_at m t fs k.marks from_test
 
-    second : Part [] [] head_at pred_at _
-    second = head_good inner head_at _ first.ends
+    abbrev from_goto : List Spot
+    from_goto = spot (Goto head_at) (Straight inner) k.marks ∷ step.label inner step_at' (head.label inner head_at from_pred)
 
-    e5 : drop test_at whole ≡ test_spot u (Leaves t out_at) (suc p) pred_at out_at m t fs k.marks ∷ _
-    e5 = pred_ends u (suc p) pred_at out_at m t fs k.marks pred_at _ second.ends
+    keep_there : drop (suc p) whole ≡ keep_spots u (suc p) out_at m fs k.marks from_goto
+    keep_there = behind_spot whole _ _ p e
 
-    third : Part [] [] body_at (body.end body_at) _
-    third = body_good inner body_at _ (behind_spot whole _ _ test_at e5)
+    goto_there : drop (past u (suc p)) whole ≡ from_goto
+    goto_there = keep_ends u (suc p) out_at m fs k.marks (suc p) from_goto keep_there
+
+    first : Part [] [] step_at' (step.end step_at') (head.label inner head_at from_pred)
+    first = step_good inner step_at' (head.label inner head_at from_pred) (behind_spot whole _ _ (past u (suc p)) goto_there)
+
+    second : Part [] [] head_at pred_at from_pred
+    second = head_good inner head_at from_pred first.ends
+
+    test_there : drop test_at whole ≡ from_test
+    test_there = pred_ends u (suc p) pred_at out_at m t fs k.marks pred_at from_test second.ends
+
+    third : Part [] [] body_at (body.end body_at) from_again
+    third = body_good inner body_at from_again (behind_spot whole _ _ test_at test_there)
 
     again_upto : (n : ℕ) → Upto n [] step_at' → Upto n [] (body.end body_at)
     again_upto n next rs ts ns passes = quiet_goes n (body.end body_at) step_at' rs rs ts _ ns ns _ (Again step_at') c third.ends refl refl refl (next rs _ ns tt)
 
     test_upto : (n : ℕ) → ((j : ℕ) → suc j ≤ n → Upto j [] body_at) → Upto n [] out_at → Upto n [] test_at
     test_upto n turn next rs ts ns passes =
-        quiet_from n test_at rs ts ns _ (Leaves t out_at) _ e5 (test_op u (Leaves t out_at) (suc p) pred_at out_at m t fs k.marks) (test_quiet u (Leaves t out_at) (suc p) pred_at out_at m t fs k.marks)
+        quiet_from n test_at rs ts ns _ (Leaves t out_at) _ test_there (test_op u (Leaves t out_at) (suc p) pred_at out_at m t fs k.marks) (test_quiet u (Leaves t out_at) (suc p) pred_at out_at m t fs k.marks)
         (λ s leads j low. by s j low (value rs t == 0) leads)
       where
         by : (s : Lane) (j : ℕ) → suc j ≤ n → (b : Bool) → (if b then lane out_at rs (under ts) ns else lane body_at rs ts ns) ≡ s → From j s
@@ -468,7 +483,7 @@ module _ (marks : ℕ → Bool) (code : KirCode) (range : Range) (bounds : List 
         by s j low false leads = subst (From j) leads (turn j low rs ts ns tt)
 
     head_to : (n : ℕ) → Upto n [] test_at → Upto n [] head_at
-    head_to n next = second.upto n (pred_upto n u (suc p) pred_at out_at m t fs k.marks pred_at _ second.ends next)
+    head_to n next = second.upto n (pred_upto n u (suc p) pred_at out_at m t fs k.marks pred_at from_test second.ends next)
 
     turns_upto : (n : ℕ) → Upto n [] out_at → Upto n [] head_at
     turns_upto zero next = head_to 0 (test_upto 0 (λ j low. absurd (omega (arith, low))) next)
@@ -482,15 +497,12 @@ module _ (marks : ℕ → Bool) (code : KirCode) (range : Range) (bounds : List 
       ends = behind_spot whole _ _ (body.end body_at) third.ends;
       upto = λ n next.
           spared_upto n p [] _ _ e refl tt
-          (keep_upto n u (suc p) out_at m fs k.marks (suc p) _ e1 (goto_upto n (past u (suc p)) head_at [] _ _ e2 refl refl (turns_upto n next)));
+          (keep_upto n u (suc p) out_at m fs k.marks (suc p) from_goto keep_there (goto_upto n (past u (suc p)) head_at [] _ _ goto_there refl refl (turns_upto n next)));
     }
 
   -- ---- single operations
 
   module _ (d : ℕ) (xs : List Checked) (known : AllBelow n0 xs) where
-    abbrev left : List Checked
-    left = forgotten d xs
-
     own_spared : (i : ℕ) → Spares (forgotten d xs) (own k i)
     own_spared i = spares_high n0 (own k i) (forgotten d xs) (forgotten_below n0 d xs known) (own_high i)
 
