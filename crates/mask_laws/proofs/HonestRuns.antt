@@ -21,10 +21,11 @@ use Rattle.mask_laws.specs.Constants.{IsConstantField, LoadsConstant}
 use Rattle.mask_laws.specs.Honest.{IsHonest, IsHonestStep, IsHonestRun}
 use Rattle.mask_laws.specs.Labels.{kernel_spots, ops_of, spot_in, first_of_list}
 use Rattle.mask_laws.specs.Laws.{InStep}
-use Rattle.mask_laws.specs.Opened.{OpAnswers, FirstAnswers, StepAnswers, RunAnswers, IsOfLaunch, HonestAnswers, HonestAnswersGiveHonestRuns}
+use Rattle.mask_laws.specs.Opened.{OpAnswers, FirstAnswers, StepAnswers, RunAnswers, IsOfLaunch, HonestAnswers, HonestAnswersGiveHonestRuns, WarpsTakeHonestAnswers}
 use Rattle.mask_laws.specs.Spots.{Spot}
 use Rattle.mask_laws.proofs.Accessing.{Led, led}
 use Rattle.mask_laws.proofs.ConstantLoads.{loads_are_constant}
+use Rattle.mask_laws.proofs.Law.{warps_in_step}
 use Rattle.mask_laws.proofs.RunLaw.{drop_ops}
 use Rattle.mask_laws.proofs.Spelling.{kernel_spells}
 
@@ -114,3 +115,12 @@ module _ (marks : ℕ → Bool) (code : KirCode) (k : Crew) (is_first : Bool) (c
 
 pub honest_runs : HonestAnswersGiveHonestRuns
 honest_runs marks code k is_first can from run w' honest runs = run_honest marks code k is_first can from honest.bounds honest.opening honest.launch run w' honest.loads runs
+
+pub take_honest : WarpsTakeHonestAnswers
+take_honest marks code k is_first may can has =
+    let from : InStep marks code k is_first = warps_in_step marks code k is_first may has in
+    record {
+      in_step = from;
+      runs = λ run w' honest runs. from.runs run w' (honest_runs marks code k is_first can from run w' honest runs).0 runs;
+      next = λ run w' honest runs. (honest_runs marks code k is_first can from run w' honest runs).1;
+    }

@@ -17,7 +17,7 @@ use Rattle.warp_code.specs.Warps.{Crew, VWarp, around_of, warp_step}
 use Rattle.warp_code.specs.Runs.{Runs}
 use Rattle.mask_laws.specs.Constants.{IsConstantField}
 use Rattle.mask_laws.specs.Honest.{IsHonestRun, IsHonestStep}
-use Rattle.mask_laws.specs.Laws.{HasItem, InStep}
+use Rattle.mask_laws.specs.Laws.{HasItem, HasItems, InStep, MayLower, RunsInStep}
 
 -- each active lane that loads a field of such an array is answered its bytes
 abbrev pub OpAnswers : KirCode → List Bound → (Place → ℕ) → Crew → VOp → VWarp → (ℕ → ℕ) → Type 0
@@ -61,3 +61,16 @@ HonestAnswersGiveHonestRuns = (marks : ℕ → Bool) (code : KirCode) (k : Crew)
     → (run : List (ℕ → ℕ)) (w' : VWarp) (honest : HonestAnswers marks code k from.w run) → Runs k (kernel_code marks code) from.w run w'
     → IsHonestRun marks code k from.w run
     × ((answers : ℕ → ℕ) → StepAnswers marks code honest.bounds honest.opening k w' answers → IsHonestStep marks code w' answers)
+
+-- A warp is in step, and takes honest answers: behind each run that is answered so all holds that holds of a warp in step. Its next step is one of
+-- which that speaks, if its answers are honest too.
+pub record HonestlyInStep (marks : ℕ → Bool) (code : KirCode) (k : Crew) (is_first : Bool) : Type 0 where
+  pub in_step : InStep marks code k is_first
+  pub runs : (run : List (ℕ → ℕ)) (w' : VWarp) → HonestAnswers marks code k in_step.w run → Runs k (kernel_code marks code) in_step.w run w'
+      → RunsInStep marks code k in_step.w run w'
+  pub next : (run : List (ℕ → ℕ)) (w' : VWarp) (honest : HonestAnswers marks code k in_step.w run) → Runs k (kernel_code marks code) in_step.w run w'
+      → (answers : ℕ → ℕ) → StepAnswers marks code honest.bounds honest.opening k w' answers → IsHonestStep marks code w' answers
+
+-- The law: so it is with each warp of a kernel whose loads and stores are checked.
+abbrev pub WarpsTakeHonestAnswers : Type 0
+WarpsTakeHonestAnswers = (marks : ℕ → Bool) (code : KirCode) (k : Crew) (is_first : Bool) → MayLower marks code → CanLower code → HasItems k → HonestlyInStep marks code k is_first

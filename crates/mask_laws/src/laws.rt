@@ -3,7 +3,7 @@ ghost use Rattle.mask_laws.specs.Accesses.{AccessesAreNamed};
 ghost use Rattle.mask_laws.specs.Clean.{LanesBeginClean};
 ghost use Rattle.mask_laws.specs.Constants.{LoadsAreConstant};
 ghost use Rattle.mask_laws.specs.Laws.{WarpsInStep};
-ghost use Rattle.mask_laws.specs.Opened.{HonestAnswersGiveHonestRuns};
+ghost use Rattle.mask_laws.specs.Opened.{HonestAnswersGiveHonestRuns, WarpsTakeHonestAnswers};
 
 /// From its start a warp passes to the lanes that have an item, whatever is answered. From there on it does for each of its lanes what
 /// the lane does alone, its active lanes wait at one point, it traps only at a failed check, and it ends with all its lanes.
@@ -31,4 +31,10 @@ pub fn loads_are_constant()
 /// array at one address in one step get one answer.
 pub fn honest_answers_give_honest_runs()
     ensures { HonestAnswersGiveHonestRuns }
+{}
+
+/// All that holds of a warp in step holds behind each run whose loads at places of `__constant` arrays are answered what the places held at the
+/// opening.
+pub fn warps_take_honest_answers()
+    ensures { WarpsTakeHonestAnswers }
 {}
