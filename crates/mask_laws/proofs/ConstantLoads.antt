@@ -287,7 +287,7 @@ module _ (marks : ℕ → Bool) (code : KirCode) (range : Range) (bounds : List 
     param_load : (n : ℕ) (fs : List Frame) (j : ℕ) (param : Option Param) (p : ℕ) (c : List Spot) → slice_get code.params j ≡ param → is_constant_param param ≡ true
         → drop p whole ≡ straight fs true k.marks (param_start (own k 0) j param ∷ Compute (own k 1) Sll a (NumberOf (shift_of elem)) ∷ Compute (own k 0) Add (held k 0) (held k 1) ∷ Fetch d elem (held k 0) ∷ []) c
         → IsKnown (Parameter j) a xs → HasElem code.params code.arrays (Parameter j) elem → Upto n (forgotten d xs) (further 4 p) → Upto n xs p
-    param_load n fs j None p c is constant e checked typed next = absurd (no constant) where
+    param_load n fs j None p c is constant e checked typed next rs ts ns passes = absurd (no constant) where
       no : false ≡ true → ⊥
       no h = absurd (cc)
     param_load n fs j (Some param) p c is constant e checked typed next rs ts ns passes =
@@ -306,7 +306,7 @@ module _ (marks : ℕ → Bool) (code : KirCode) (range : Range) (bounds : List 
         goes_to n (further 4 p) (put_at d (fitted elem leads4.0) (third_rs (at.block (16 + 2 * j)) rs)) ts ns t4 m4 low4 leads4.1
         (next (put_at d (fitted elem leads4.0) (third_rs (at.block (16 + 2 * j)) rs)) ts ns
         (passes_spared setting d (fitted elem leads4.0) (forgotten d xs) (third_rs (at.block (16 + 2 * j)) rs) (spares_forgotten d xs)
-        (passes_fewer setting d xs (third_rs (at.block (16 + 2 * j)) rs) (third_passes (at.block (16 + 2 * j)) rs passes))))))))))))
+        (passes_fewer setting d xs (third_rs (at.block (16 + 2 * j)) rs) (third_passes (at.block (16 + 2 * j)) rs passes)))))))))))
 
   -- ---- checks
 
