@@ -21,15 +21,15 @@ use Rattle.mask_laws.proofs.Promising.{asks_now}
 
 -- ---- a run of a lane, with how many steps it has and which registers they write
 
-record Led (at : Around) (code : List VOp) (s : Lane) (ws : List ℕ) (t : Lane) : Type 0 where
-  steps : ℕ
-  written : List ℕ
-  comes : lowering.Comes at code steps s ws t written
+pub record Led (at : Around) (code : List VOp) (s : Lane) (ws : List ℕ) (t : Lane) : Type 0 where
+  pub steps : ℕ
+  pub written : List ℕ
+  pub comes : lowering.Comes at code steps s ws t written
 
 one_more : (at : Around) (code : List VOp) (s m t : Lane) (ws : List ℕ) → Leads (vcode.step at code s) m → Led at code m (first_written (drop s.place code) ws) t → Led at code s ws t
 one_more at code s m t ws leads on = record { steps = suc on.steps; written = on.written; comes = (m, leads, on.comes) }
 
-led : (at : Around) (code : List VOp) (ws : List ℕ) {s t : Lane} {answers : List ℕ} → Comes (vcode.step at code) s answers t → Led at code s ws t
+pub led : (at : Around) (code : List VOp) (ws : List ℕ) {s t : Lane} {answers : List ℕ} → Comes (vcode.step at code) s answers t → Led at code s ws t
 led at code ws (Stays s) = record { steps = 0; written = ws; comes = (refl, refl) }
 led at code ws (Goes s m t answers goes comes) = one_more at code s m t ws (subst (λ d. Leads d m) (sym goes) refl) (led at code (first_written (drop s.place code) ws) comes)
 led at code ws (Takes s a next answer t rest takes comes) =

@@ -18,7 +18,6 @@ pub mod RunLaw
 pub mod Opening
 pub mod Starting
 pub mod Promising
-pub mod HonestRuns
 pub mod ItemLanes
 pub mod BarLaw
 pub mod Law
@@ -30,3 +29,6 @@ pub mod Places
 pub mod Cleaning
 pub mod WorkedKernel
 pub mod Accessing
+pub mod Passed
+pub mod ConstantLoads
+pub mod HonestRuns
