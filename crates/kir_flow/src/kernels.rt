@@ -21,7 +21,7 @@ use vx_base::Memory;
 fn room(sure: bool, ops: &[Op]) -> u32
     ensures { result ≡ cut (room_of sure (ops_of ops.now)) }
 {
-    let mut most = 0;
+    let mut most = 0_u32;
     let mut certain = sure;
     for k in 0..ops.len() {
         let op = &ops[k];

@@ -180,7 +180,7 @@ fn args_room(args: &[FlatArgument]) -> u64
     ensures room { result ≡ counted (args_room_of (flat_arguments args.now)) }
     ensures words { ArgsWords (flat_arguments args.now) }
 {
-    let mut most = 0;
+    let mut most = 0_u64;
     for k in 0..args.len() {
         most = most.max(arg_room(&args[k]));
     }
@@ -327,7 +327,7 @@ pub fn stmts_room(stmts: &[FlatStmt]) -> u64
     ensures room { result ≡ counted (stmts_room_of (flat_trees stmts.now)) }
     ensures words { StmtsWords (flat_trees stmts.now) }
 {
-    let mut most = 0;
+    let mut most = 0_u64;
     for k in 0..stmts.len() {
         most = most.max(stmt_room(&stmts[k]));
     }

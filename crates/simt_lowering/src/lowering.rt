@@ -37,7 +37,7 @@ fn loops(ops: &[Op]) -> u32
     requires fits { loop_nesting (ops_of ops.now) < 2 ^ 32 }
     ensures { result ≡ loop_nesting (ops_of ops.now) }
 {
-    let mut most = 0;
+    let mut most = 0_u32;
     for k in 0..ops.len() {
         most = most.max(op_loops(&ops[k]));
     }
