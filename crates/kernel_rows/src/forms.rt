@@ -1,5 +1,5 @@
-//! The forms of a kernel: as its text has it, with its calls expanded, in normal form, with flags in place of jumps, and as code for
-//! lanes, each lane alone.
+//! The forms of a kernel: as its text has it, with its calls expanded, in normal form, with flags in place of jumps, as code for
+//! lanes, each lane alone, and as the words of an image, each lane alone and in the warps of a core.
 
 ghost use Rattle.std.specs.Prelude.{◌≡◌, ◌<◌, ◌≤◌, ◌^◌, IfSome, Some, length, map, true};
 ghost use Rattle.ocl_program.specs.Measures.{measured, own_depth};
@@ -9,11 +9,14 @@ ghost use Rattle.ocl_inline.specs.FlatItems.{flat_at};
 ghost use Rattle.structured.specs.Ready.{IsKernel};
 
 use crate::bytes::Bytes;
+use crate::cores::{CoreLaunch, CoreShape};
 use crate::lanes::Lanes;
 use crate::marks::marks_text;
 use crate::rows::Row;
 use crate::runs::{FormItems, Run, run_launch};
+use crate::words::WordLanes;
 use item_acts::{Bound, BoundList, ItemCode, Range};
+use kernel_images::{CompileFault, compile};
 use kir::{Kir, KirItems};
 use kir_flow::flags;
 use lane_kernels::lane_kernel;
@@ -23,8 +26,9 @@ use ocl_norm::normalise;
 use ocl_types::Program;
 use std::alloc::{AllocError, Global};
 use structured::laws::found_are_kernels;
-use vx_base::{ListOf, Memory, ParamKind};
+use vx_base::{KindList, ListOf, Memory, ParamKind};
 use vx_cc::front;
+use vx_isa::Image;
 
 /// The most bytes that a file may have.
 const LIMIT: usize = 1_048_576;
@@ -34,6 +38,19 @@ const LEVELS: u32 = 0x8000_0000;
 
 /// How many bytes the buffer of a launch has.
 const BYTES: u32 = 32;
+
+/// The cores that run the image of a kernel: warps that are not full, full ones, and one warp for a group.
+const SHAPES: [CoreShape; 3] = [
+    CoreShape { warps: 8, lanes: 3 },
+    CoreShape {
+        warps: 16,
+        lanes: 4,
+    },
+    CoreShape {
+        warps: 1,
+        lanes: 32,
+    },
+];
 
 /// How many work-items a launch has, at most 64.
 fn count_of(range: Range) -> u32 {
@@ -64,6 +81,17 @@ fn bounds_of(
     let mut items = Vec::new(alloc);
     for param in program.params(kernel).as_slice() {
         items.push(bound_of(row, param.kind))?;
+    }
+    Ok(ListOf { items })
+}
+
+/// What the parameters of a kernel are.
+fn kinds_of(alloc: Global, program: &Program, kernel: u32) -> Result<KindList, AllocError>
+    requires { kernel < length program.now.functions.items }
+{
+    let mut items = Vec::new(alloc);
+    for param in program.params(kernel).as_slice() {
+        items.push(param.kind)?;
     }
     Ok(ListOf { items })
 }
@@ -199,15 +227,105 @@ fn push_lanes(
     requires depth { measured own_depth (map function_node program.now.functions.items) kernel ≤ 2 ^ 31 }
 {
     let code = lane_kernel(alloc, program, kernel)?;
+    let kinds = kinds_of(alloc, program, kernel)?;
     let bounds = bounds_of(alloc, row, program, kernel)?;
     let lanes = Lanes {
         code: &code,
         range: row.range,
+        kinds: kinds.as_slice(),
         bounds: bounds.as_slice(),
     };
     let ran = run_launch(alloc, &lanes, count_of(row.range), Bytes::of(row.given))?;
     push_difference(said, "lanes", source, ran.actions.as_str())?;
     Ok(())
+}
+
+/// Says that lanes alone at the words of an image ask for other actions than the source does, if they do so. In which turns of its loops
+/// a lane waits is not in the words.
+fn push_words(
+    said: &mut String,
+    alloc: Global,
+    row: &Row,
+    image: &Image,
+    bounds: &[Bound],
+    source: &str,
+) -> Result<(), Memory> {
+    let lanes = WordLanes {
+        image,
+        range: row.range,
+        bounds,
+    };
+    let ran = run_launch(alloc, &lanes, count_of(row.range), Bytes::of(row.given))?;
+    push_difference(said, "words", source, ran.without_points.as_str())?;
+    Ok(())
+}
+
+/// How a launch ends, without the item that fails a check: which of several does so first turns on the warps.
+fn without_item(end: &str) -> &str {
+    match end.split_once(" of item ") {
+        Some((fault, _item)) => fault,
+        None => end,
+    }
+}
+
+/// Says on which cores the launch of an image ends otherwise than the items of the source do, if there are any.
+fn push_cores(
+    said: &mut String,
+    alloc: Global,
+    row: &Row,
+    image: &Image,
+    bounds: &[Bound],
+    source: &str,
+) -> Result<(), Memory> {
+    for shape in SHAPES {
+        let launch = CoreLaunch {
+            image,
+            range: row.range,
+            bounds,
+            shape,
+        };
+        if !launch.has_room() {
+            continue;
+        }
+        let end = launch.run(alloc, row.given)?;
+        if without_item(end.as_str()) != without_item(source) {
+            let CoreShape { warps, lanes } = shape;
+            said.push_str(format!(in alloc; ", on {warps} warps of {lanes}: {end}")?.as_str())?;
+        }
+    }
+    Ok(())
+}
+
+/// Says what the image of a kernel does otherwise than its source, or why it has none.
+fn push_image(
+    said: &mut String,
+    alloc: Global,
+    row: &Row,
+    program: &Program,
+    kernel: u32,
+    source: &Run,
+) -> Result<(), Memory>
+    requires { kernel < length program.now.functions.items }
+{
+    let image = match compile(alloc, program, b"k") {
+        Ok(image) => image,
+        Err(CompileFault::Memory) => return Err(Memory),
+        Err(fault) => {
+            said.push_str(format!(in alloc; ", no image: {fault}")?.as_str())?;
+            return Ok(());
+        }
+    };
+    let bounds = bounds_of(alloc, row, program, kernel)?;
+    let actions = source.without_points.as_str();
+    push_words(said, alloc, row, &image, bounds.as_slice(), actions)?;
+    push_cores(
+        said,
+        alloc,
+        row,
+        &image,
+        bounds.as_slice(),
+        source.end.as_str(),
+    )
 }
 
 /// How the launch of a kernel ends, and which forms of it ask for other actions than the source does.
@@ -219,7 +337,7 @@ fn answer_kernel(alloc: Global, row: &Row, program: &Program, kernel: u32) -> Re
     let Some(source) = run_source(alloc, row, program, kernel)? else {
         return Ok(String::from_str(alloc, "another parameter")?);
     };
-    let mut said = source.end;
+    let mut said = String::from_str(alloc, source.end.as_str())?;
     let actions = source.actions.as_str();
     let flat = expand(alloc, program, kernel)?;
     if let Some(ran) = run_flat(alloc, row, program, kernel, &flat)? {
@@ -227,6 +345,7 @@ fn answer_kernel(alloc: Global, row: &Row, program: &Program, kernel: u32) -> Re
     }
     push_code(&mut said, alloc, row, program, kernel, &flat, actions)?;
     push_lanes(&mut said, alloc, row, program, kernel, actions)?;
+    push_image(&mut said, alloc, row, program, kernel, &source)?;
     Ok(said)
 }
 

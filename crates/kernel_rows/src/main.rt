@@ -4,12 +4,15 @@
 //! work-items of one are run.
 #![tactic(auto)]
 
+mod blocks;
 mod bytes;
+mod cores;
 mod forms;
 mod lanes;
 mod marks;
 mod rows;
 mod runs;
+mod words;
 
 use rows::Row;
 use std::alloc::Global;

@@ -70,8 +70,43 @@ struct Way {
 pub struct Run {
     /// Each action, in order.
     pub actions: String,
+    /// Each action, in order, without the points of barriers.
+    pub without_points: String,
     /// The words after it, or the fault that came, with its item.
     pub end: String,
+}
+
+/// The actions of a launch so far.
+#[derive(Drop)]
+struct Log {
+    /// Each action, in order.
+    actions: String,
+    /// The same without the points of barriers.
+    without_points: String,
+}
+
+impl Log {
+    /// Notes what an item asks for.
+    fn note(&mut self, alloc: Global, number: u32, asked: &Asked) -> Result<(), AllocError> {
+        let line = format!(in alloc; "{number} {asked:?}\n")?;
+        self.actions.push_str(line.as_str())?;
+        match asked {
+            Asked::Act(Action::Barrier(_)) => {
+                let line = format!(in alloc; "{number} barrier\n")?;
+                self.without_points.push_str(line.as_str())
+            }
+            _ => self.without_points.push_str(line.as_str()),
+        }
+    }
+
+    /// A launch that ends so.
+    fn run(self, end: String) -> Run {
+        Run {
+            actions: self.actions,
+            without_points: self.without_points,
+            end,
+        }
+    }
 }
 
 /// Lets an item make one action. None if it goes on after it.
@@ -80,10 +115,10 @@ fn act<I: Askers>(
     items: &I,
     way: &mut Way,
     bytes: &mut Bytes,
-    actions: &mut String,
+    log: &mut Log,
 ) -> Result<Option<Pause>, Memory> {
     let asked = items.next(alloc, way.number, way.answers.as_slice(), STEPS)?;
-    actions.push_str(format!(in alloc; "{} {asked:?}\n", way.number)?.as_str())?;
+    log.note(alloc, way.number, &asked)?;
     let (answer, pause) = match asked {
         Asked::Running => (0, Some(Pause::Runs)),
         Asked::Act(Action::Load { place, size }) => (bytes.load(place, size), None),
@@ -105,10 +140,10 @@ fn go<I: Askers>(
     items: &I,
     way: &mut Way,
     bytes: &mut Bytes,
-    actions: &mut String,
+    log: &mut Log,
 ) -> Result<Pause, Memory> {
     for _ in 0..ACTIONS {
-        if let Some(pause) = act(alloc, items, way, bytes, actions)? {
+        if let Some(pause) = act(alloc, items, way, bytes, log)? {
             return Ok(pause);
         }
     }
@@ -134,14 +169,14 @@ fn go_all<I: Askers>(
     items: &I,
     ways: &mut [Way],
     bytes: &mut Bytes,
-    actions: &mut String,
+    log: &mut Log,
 ) -> Result<Option<String>, Memory> {
     let mut waits = false;
     for way in ways.iter_mut() {
         if way.over {
             continue;
         }
-        match go(alloc, items, way, bytes, actions)? {
+        match go(alloc, items, way, bytes, log)? {
             Pause::Waits => waits = true,
             Pause::Ended => way.over = true,
             Pause::Fault(pos) => {
@@ -168,13 +203,16 @@ pub fn run_launch<I: Askers>(
     mut bytes: Bytes,
 ) -> Result<Run, Memory> {
     let mut ways = ways_of(alloc, count)?;
-    let mut actions = String::new(alloc);
+    let mut log = Log {
+        actions: String::new(alloc),
+        without_points: String::new(alloc),
+    };
     for _ in 0..ROUNDS {
-        let end = go_all(alloc, items, ways.as_mut_slice(), &mut bytes, &mut actions)?;
+        let end = go_all(alloc, items, ways.as_mut_slice(), &mut bytes, &mut log)?;
         if let Some(end) = end {
-            return Ok(Run { actions, end });
+            return Ok(log.run(end));
         }
     }
     let end = String::from_str(alloc, "too many barriers")?;
-    Ok(Run { actions, end })
+    Ok(log.run(end))
 }

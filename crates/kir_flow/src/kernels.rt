@@ -16,23 +16,16 @@ use kir::{Kir, Op, Operand, put_set};
 use std::alloc::{AllocError, Global};
 use vx_base::Memory;
 
-/// The greater of two numbers.
-fn greater(one: u32, other: u32) -> u32
-    ensures { result ≡ max one other }
-{
-    if one < other { other } else { one }
-}
-
 /// How many flags operations need at most, one inside another, kept up to 2^32 - 1.
 #[cycle(room)]
 fn room(sure: bool, ops: &[Op]) -> u32
     ensures { result ≡ cut (room_of sure (ops_of ops.now)) }
 {
-    let mut most = 0;
+    let mut most = 0_u32;
     let mut certain = sure;
     for k in 0..ops.len() {
         let op = &ops[k];
-        most = greater(most, op_room(certain, op));
+        most = most.max(op_room(certain, op));
         certain = both(certain, !op_is_left(op));
     }
     most
@@ -44,7 +37,7 @@ fn op_room(sure: bool, op: &Op) -> u32
     ensures { result ≡ cut (op_room_of sure (op_of op.now)) }
 {
     match op {
-        Op::If { yes, no, .. } => greater(room(sure, yes.as_slice()), room(sure, no.as_slice())),
+        Op::If { yes, no, .. } => room(sure, yes.as_slice()).max(room(sure, no.as_slice())),
         Op::Loop {
             head,
             body,
@@ -76,10 +69,10 @@ fn loop_room(sure: bool, head: &[Op], body: &[Op], step: &[Op]) -> u32
     ensures { result ≡ cut (op_room_of sure (Loop (ops_of head.now) (NumberOf 0) (ops_of body.now) (ops_of step.now))) }
 {
     if is_flagged(sure, head, body, step) {
-        let inside = greater(room(true, body), room(false, step));
-        return greater(room(false, head), inside).saturating_add(2);
+        let inside = room(true, body).max(room(false, step));
+        return room(false, head).max(inside).saturating_add(2);
     }
-    greater(room(true, head), greater(turn_room(body), room(true, step)))
+    room(true, head).max(turn_room(body).max(room(true, step)))
 }
 
 /// How many flags the turn of a loop needs that no jump leaves.

@@ -19,13 +19,6 @@ use ocl_ast::AssignOp;
 use ocl_inline::trees::{FlatArgument, FlatExpr, FlatStmt};
 use ocl_program::Builtin;
 
-/// The greater of two numbers.
-fn greater(one: u64, other: u64) -> u64
-    ensures { result ≡ max one other }
-{
-    if one < other { other } else { one }
-}
-
 /// What a part uses behind the variable that holds the value of the one before it.
 fn room_above(held: Standing, calls: bool, room: u64) -> u64
     ensures { result ≡ counted (above calls (standing_by held) room) }
@@ -104,13 +97,13 @@ fn value_room(expr: &FlatExpr) -> u64
     match expr {
         FlatExpr::Number { value, .. } => none_for(u64::from(*value)),
         FlatExpr::Variable(_) => 0,
-        FlatExpr::Unary { part, .. } | FlatExpr::Cast { part, .. } => greater(1, value_room(part)),
-        FlatExpr::Binary { left, right, .. } => greater(1, pair_room(left, right)),
+        FlatExpr::Unary { part, .. } | FlatExpr::Cast { part, .. } => u64::max(1, value_room(part)),
+        FlatExpr::Binary { left, right, .. } => u64::max(1, pair_room(left, right)),
         FlatExpr::Both { left, right } | FlatExpr::Either { left, right } => {
-            greater(value_room(left), value_room(right).saturating_add(1))
+            value_room(left).max(value_room(right).saturating_add(1))
         }
         FlatExpr::Choose { test, yes, no, .. } => choice_room(test, yes, no),
-        FlatExpr::Load { place, .. } => greater(1, value_room(place)),
+        FlatExpr::Load { place, .. } => u64::max(1, value_room(place)),
         FlatExpr::Call { args, body } => call_room(args.as_slice(), body.as_slice()),
         FlatExpr::Lost { args } => none_for(args_room(args.as_slice())),
         FlatExpr::Builtin { which, args, .. } => builtin_room(*which, args.as_slice()),
@@ -128,7 +121,7 @@ fn choice_room(test: &FlatExpr, yes: &FlatExpr, no: &FlatExpr) -> u64
 {
     let one = value_room(yes);
     let other = value_room(no);
-    greater(value_room(test), greater(1, greater(one, other)))
+    value_room(test).max(u64::max(1, one.max(other)))
 }
 
 /// How many variables two parts use, the right one behind the variable that holds the value of the left one.
@@ -139,7 +132,7 @@ fn pair_room(left: &FlatExpr, right: &FlatExpr) -> u64
     ensures right { ExprWords (expr_of right.now) }
 {
     let behind = room_above(standing_of(left), calls(right), value_room(right));
-    greater(value_room(left), behind)
+    value_room(left).max(behind)
 }
 
 /// How many variables a call uses: its result is one.
@@ -149,7 +142,7 @@ fn call_room(args: &[FlatArgument], body: &[FlatStmt]) -> u64
     ensures args { ArgsWords (flat_arguments args.now) }
     ensures body { StmtsWords (flat_trees body.now) }
 {
-    greater(args_room(args), greater(1, stmts_room(body)))
+    args_room(args).max(u64::max(1, stmts_room(body)))
 }
 
 /// How many variables a built-in function uses.
@@ -160,11 +153,11 @@ fn builtin_room(which: Builtin, args: &[FlatArgument]) -> u64
 {
     match values_in(args) {
         Values::None => none_for(args_room(args)) + 1,
-        Values::One(value) => greater(one_room(which), value_room(value)),
-        Values::Two(left, right) => greater(two_room(which), pair_room(left, right)),
+        Values::One(value) => one_room(which).max(value_room(value)),
+        Values::Two(left, right) => two_room(which).max(pair_room(left, right)),
         Values::Three(value, low, high) => {
             let more = none_for(args_room(&args[3..]));
-            greater(more, clamp_room(value, low, high))
+            more.max(clamp_room(value, low, high))
         }
     }
 }
@@ -178,7 +171,7 @@ fn clamp_room(value: &FlatExpr, low: &FlatExpr, high: &FlatExpr) -> u64
     ensures high { ExprWords (expr_of high.now) }
 {
     let last = value_room(high).saturating_add(1);
-    greater(3, greater(pair_room(value, low), last))
+    u64::max(3, pair_room(value, low).max(last))
 }
 
 /// How many variables arguments use, each from the same one on.
@@ -187,9 +180,9 @@ fn args_room(args: &[FlatArgument]) -> u64
     ensures room { result ≡ counted (args_room_of (flat_arguments args.now)) }
     ensures words { ArgsWords (flat_arguments args.now) }
 {
-    let mut most = 0;
+    let mut most = 0_u64;
     for k in 0..args.len() {
-        most = greater(most, arg_room(&args[k]));
+        most = most.max(arg_room(&args[k]));
     }
     most
 }
@@ -244,11 +237,11 @@ fn stmt_room(stmt: &FlatStmt) -> u64
         FlatStmt::Call(call) => value_room(call).saturating_add(1),
         FlatStmt::If { test, yes, no } => if_room(test, yes, no),
         FlatStmt::While { test, body } => {
-            greater(value_room(test).saturating_add(1), stmt_room(body))
+            value_room(test).saturating_add(1).max(stmt_room(body))
         }
         FlatStmt::Do { body, test } => {
             let turn = stmt_room(body);
-            greater(greater(1, value_room(test)).saturating_add(1), turn)
+            u64::max(1, value_room(test)).saturating_add(1).max(turn)
         }
         FlatStmt::For {
             first,
@@ -269,7 +262,7 @@ fn variable_room(op: AssignOp, variable: u32, value: &Option<Box<FlatExpr>>) -> 
 {
     let right = right_room(value);
     let behind = room_above(Standing::Named(variable), right_calls(value), right);
-    assigned(op, right, greater(1, behind)).saturating_add(1)
+    assigned(op, right, u64::max(1, behind)).saturating_add(1)
 }
 
 /// How many variables the new value of an element uses.
@@ -283,8 +276,8 @@ fn element_room(op: AssignOp, place: &FlatExpr, value: &Option<Box<FlatExpr>>) -
     let calls = right_calls(value);
     let left = value_room(place);
     let right = right_room(value);
-    let stored = greater(left, room_above(held, calls, right));
-    let changed = greater(left, room_above(held, calls, right.saturating_add(1)));
+    let stored = left.max(room_above(held, calls, right));
+    let changed = left.max(room_above(held, calls, right.saturating_add(1)));
     assigned(op, stored, changed).saturating_add(1)
 }
 
@@ -308,7 +301,7 @@ fn if_room(test: &FlatExpr, yes: &FlatStmt, no: &Option<Box<FlatStmt>>) -> u64
 {
     let one = stmt_room(yes);
     let other = else_room(no);
-    greater(value_room(test).saturating_add(1), greater(one, other))
+    value_room(test).saturating_add(1).max(one.max(other))
 }
 
 /// How many variables `for` uses.
@@ -325,7 +318,7 @@ fn for_room(
     let head = right_room(test).saturating_add(1);
     let behind = stmts_room(step);
     let turn = stmt_room(body);
-    greater(stmts_room(first), greater(head, greater(behind, turn)))
+    stmts_room(first).max(head.max(behind.max(turn)))
 }
 
 /// How many variables statements use, kept up to 2^64 - 1; all numbers written in them are words.
@@ -334,9 +327,9 @@ pub fn stmts_room(stmts: &[FlatStmt]) -> u64
     ensures room { result ≡ counted (stmts_room_of (flat_trees stmts.now)) }
     ensures words { StmtsWords (flat_trees stmts.now) }
 {
-    let mut most = 0;
+    let mut most = 0_u64;
     for k in 0..stmts.len() {
-        most = greater(most, stmt_room(&stmts[k]));
+        most = most.max(stmt_room(&stmts[k]));
     }
     most
 }

@@ -31,22 +31,15 @@ use uniformity::Marks;
 use vcode::{VCode, VOp, put};
 use vx_base::{Memory, ParamKind};
 
-/// The greater of two numbers.
-fn greater(one: u32, other: u32) -> u32
-    ensures { result ≡ max one other }
-{
-    if one < other { other } else { one }
-}
-
 /// How many loops stand within one another at most.
 #[cycle(loops)]
 fn loops(ops: &[Op]) -> u32
     requires fits { loop_nesting (ops_of ops.now) < 2 ^ 32 }
     ensures { result ≡ loop_nesting (ops_of ops.now) }
 {
-    let mut most = 0;
+    let mut most = 0_u32;
     for k in 0..ops.len() {
-        most = greater(most, op_loops(&ops[k]));
+        most = most.max(op_loops(&ops[k]));
     }
     most
 }
@@ -58,15 +51,15 @@ fn op_loops(op: &Op) -> u32
     ensures { result ≡ loop_nesting_in (op_of op.now) }
 {
     match op {
-        Op::If { yes, no, .. } => greater(loops(yes.as_slice()), loops(no.as_slice())),
+        Op::If { yes, no, .. } => loops(yes.as_slice()).max(loops(no.as_slice())),
         Op::Loop {
             head,
             body,
             step,
             ..
         } => {
-            let inside = greater(loops(body.as_slice()), loops(step.as_slice()));
-            greater(loops(head.as_slice()), inside) + 1
+            let inside = loops(body.as_slice()).max(loops(step.as_slice()));
+            loops(head.as_slice()).max(inside) + 1
         }
         Op::Call { body } => loops(body.as_slice()),
         Op::Set { .. } | Op::Calculate { .. } | Op::Fit { .. } | Op::Id { .. } => 0,

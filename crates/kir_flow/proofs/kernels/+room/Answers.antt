@@ -26,8 +26,8 @@ room-loop-k-preserved t c =
     let sure = c.loop-k.certain in
     let here : max c.loop-k.most (cut (room sure (AndOp (op_of op) rest))) ≡ cut (room c.args.sure (ops_of ops)) =
     ap (λ x. max c.loop-k.most (cut (room sure x))) (sym (first_of ops k op c.loop-k-test.true c.index-ops-k.is)) ∙ c.loop-k.invariant in
-    room_more c.loop-k.most (cut (room c.args.sure (ops_of ops))) c.greater-most.result sure c.both-certain.result (op_of op) rest here
-    (c.greater-most.ensures ∙ ap (max c.loop-k.most) c.op_room.ensures) (c.both-certain.ensures ∙ ap (λ b. sure && not b) c.op_is_left.ensures)
+    room_more c.loop-k.most (cut (room c.args.sure (ops_of ops))) c.max-most.result sure c.both-certain.result (op_of op) rest here
+    (c.max-most.ensures ∙ ap (max c.loop-k.most) c.op_room.ensures) (c.both-certain.ensures ∙ ap (λ b. sure && not b) c.op_is_left.ensures)
 
 pub room-returns : goal.room-returns
 room-returns t c =
@@ -40,7 +40,7 @@ op_room-returns-in-Call t c = rw (call_seen _ _ _ c.in-Call.is c.as_slice-in-Cal
 pub op_room-returns-in-If : goal.op_room-returns-in-If
 op_room-returns-in-If t c =
     let node = if_seen c.args.op.now c.in-If.test c.in-If.yes c.in-If.no c.as_slice.result.now c.as_slice-in-If.result.now c.in-If.is c.as_slice.ensures.value c.as_slice-in-If.ensures.value in
-    c.greater.ensures ∙ cut_both _ _ (room c.args.sure (ops_of c.as_slice.result.now)) (room c.args.sure (ops_of c.as_slice-in-If.result.now)) c.room.ensures c.room-in-If.ensures
+    c.max.ensures ∙ cut_both _ _ (room c.args.sure (ops_of c.as_slice.result.now)) (room c.args.sure (ops_of c.as_slice-in-If.result.now)) c.room.ensures c.room-in-If.ensures
     ∙ sym (ap (λ o. cut (op_room c.args.sure o)) node)
 
 pub op_room-returns-in-Loop : goal.op_room-returns-in-Loop
@@ -90,9 +90,9 @@ loop_room-returns-then-is_flagged t c =
     let head = ops_of c.args.head.now in
     let body = ops_of c.args.body.now in
     let step = ops_of c.args.step.now in
-    let inner = c.greater-inside.ensures ∙ cut_both _ _ (room true body) (room false step) c.room.ensures c.room-then-is_flagged.ensures in
-    let outer = c.greater.ensures ∙ cut_both _ _ (room false head) (max (room true body) (room false step)) c.room-then-is_flagged-2.ensures inner in
-    c.saturating_add.ensures ∙ two_more c.greater.result (max (room false head) (max (room true body) (room false step))) outer
+    let inner = c.max-inside.ensures ∙ cut_both _ _ (room true body) (room false step) c.room.ensures c.room-then-is_flagged.ensures in
+    let outer = c.max.ensures ∙ cut_both _ _ (room false head) (max (room true body) (room false step)) c.room-then-is_flagged-2.ensures inner in
+    c.saturating_add.ensures ∙ two_more c.max.result (max (room false head) (max (room true body) (room false step))) outer
     ∙ sym (ap cut (cut_room c.args.sure head (NumberOf 0) body step (sym c.is_flagged.ensures ∙ c.if-is_flagged.true)))
 
 pub loop_room-room-requires : goal.loop_room-room-requires
@@ -136,6 +136,6 @@ loop_room-returns t c =
     let head = ops_of c.args.head.now in
     let body = ops_of c.args.body.now in
     let step = ops_of c.args.step.now in
-    let inner = c.greater-2.ensures ∙ cut_both _ _ (turn_room body) (room true step) c.turn_room.ensures c.room-3.ensures in
-    c.greater-3.ensures ∙ cut_both _ _ (room true head) (max (turn_room body) (room true step)) c.room-2.ensures inner
+    let inner = c.max-2.ensures ∙ cut_both _ _ (turn_room body) (room true step) c.turn_room.ensures c.room-3.ensures in
+    c.max-3.ensures ∙ cut_both _ _ (room true head) (max (turn_room body) (room true step)) c.room-2.ensures inner
     ∙ sym (ap cut (loop_room c.args.sure head (NumberOf 0) body step (sym c.is_flagged.ensures ∙ c.if-is_flagged.false)))

@@ -59,7 +59,7 @@ builtin_room-returns-in-One-clause-room t c =
     let x = expr_of c.in-One.value.now in
     let found : values_in args ≡ OneValue x = sym c.values_in.ensures ∙ ap values_by c.in-One.is in
     let roomy : builtin_room c.args.which args ≡ max (one_room c.args.which) (value_room x) = function_room_is c.args.which args ∙ ap (function_room c.args.which) found in
-    c.greater.ensures ∙ counted_first _ _ (one_room c.args.which) (value_room x) c.one_room.ensures (one_small c.args.which) c.value_room.ensures.room ∙ sym (ap counted roomy)
+    c.max.ensures ∙ counted_first _ _ (one_room c.args.which) (value_room x) c.one_room.ensures (one_small c.args.which) c.value_room.ensures.room ∙ sym (ap counted roomy)
 
 pub builtin_room-returns-in-Two-clause-room : goal.builtin_room-returns-in-Two-clause-room
 builtin_room-returns-in-Two-clause-room t c =
@@ -69,7 +69,7 @@ builtin_room-returns-in-Two-clause-room t c =
     let found : values_in args ≡ TwoValues x y = sym c.values_in.ensures ∙ ap values_by c.in-Two.is in
     let both = pair_room (value_room x) (standing x) (value_room y) (calls y) in
     let roomy : builtin_room c.args.which args ≡ max (two_room c.args.which) both = function_room_is c.args.which args ∙ ap (function_room c.args.which) found in
-    c.greater-in-Two.ensures ∙ counted_first _ _ (two_room c.args.which) both c.two_room.ensures (two_small c.args.which) c.pair_room.ensures.room ∙ sym (ap counted roomy)
+    c.max-in-Two.ensures ∙ counted_first _ _ (two_room c.args.which) both c.two_room.ensures (two_small c.args.which) c.pair_room.ensures.room ∙ sym (ap counted roomy)
 
 pub builtin_room-returns-in-Three-clause-room : goal.builtin_room-returns-in-Three-clause-room
 builtin_room-returns-in-Three-clause-room t c =
@@ -80,7 +80,7 @@ builtin_room-returns-in-Three-clause-room t c =
     let found : values_in args ≡ ThreeValues x y z = sym c.values_in.ensures ∙ ap values_by c.in-Three.is in
     let both = pair_room (value_room x) (standing x) (value_room y) (calls y) in
     let roomy : builtin_room c.args.which args ≡ max 3 (max both (suc (value_room z))) = function_room_is c.args.which args ∙ ap (function_room c.args.which) found in
-    c.greater-in-Three.ensures ∙ counted_alone _ _ (max 3 (max both (suc (value_room z)))) c.none_for-more.ensures c.clamp_room.ensures.room ∙ sym (ap counted roomy)
+    c.max-in-Three.ensures ∙ counted_alone _ _ (max 3 (max both (suc (value_room z)))) c.none_for-more.ensures c.clamp_room.ensures.room ∙ sym (ap counted roomy)
 
 pub builtin_room-returns-in-Three-clause-words : goal.builtin_room-returns-in-Three-clause-words
 builtin_room-returns-in-Three-clause-words t c =
@@ -102,12 +102,12 @@ element_room-returns-clause-room t c =
     let behind = c.room_above.ensures ∙ ap (λ s. counted (above b s right)) c.standing_of-held.ensures ∙ ap (λ b'. counted (above b' (standing x) right)) c.right_calls-calls.ensures in
     let behind' = c.room_above-2.ensures ∙ ap (λ s. counted (above b s c.saturating_add.result)) c.standing_of-held.ensures
     ∙ ap (λ b'. counted (above b' (standing x) c.saturating_add.result)) c.right_calls-calls.ensures in
-    let stored = c.greater-stored.ensures
+    let stored = c.max-stored.ensures
     ∙ counted_pair (standing x) (right_calls v) c.value_room-left.result right c.room_above.result (value_room x) (right_room v) c.value_room-left.ensures.room c.right_room-right.ensures.room behind in
-    let changed = c.greater-changed.ensures
+    let changed = c.max-changed.ensures
     ∙ counted_pair (standing x) (right_calls v) c.value_room-left.result c.saturating_add.result c.room_above-2.result (value_room x) (suc (right_room v)) c.value_room-left.ensures.room more behind' in
     c.saturating_add-2.ensures ∙ ap (λ n. min (n + 1) 18446744073709551615) c.assigned.ensures
-    ∙ counted_assigned c.args.op c.greater-stored.result c.greater-changed.result (pair_room (value_room x) (standing x) (right_room v) (right_calls v)) (pair_room (value_room x) (standing x) (suc (right_room v)) (right_calls v)) stored changed
+    ∙ counted_assigned c.args.op c.max-stored.result c.max-changed.result (pair_room (value_room x) (standing x) (right_room v) (right_calls v)) (pair_room (value_room x) (standing x) (suc (right_room v)) (right_calls v)) stored changed
 
 pub pair_room-returns-clause-room : goal.pair_room-returns-clause-room
 pair_room-returns-clause-room t c =
@@ -115,7 +115,7 @@ pair_room-returns-clause-room t c =
     let y = expr_of c.args.right.now in
     let right = c.value_room.result in
     let behind = c.room_above-behind.ensures ∙ ap (λ s. counted (above c.calls.result s right)) c.standing_of.ensures ∙ ap (λ b. counted (above b (standing x) right)) c.calls.ensures in
-    c.greater.ensures ∙ counted_pair (standing x) (calls y) c.value_room-2.result right c.room_above-behind.result (value_room x) (value_room y) c.value_room-2.ensures.room c.value_room.ensures.room behind
+    c.max.ensures ∙ counted_pair (standing x) (calls y) c.value_room-2.result right c.room_above-behind.result (value_room x) (value_room y) c.value_room-2.ensures.room c.value_room.ensures.room behind
 
 pub stmt_room-for_room-requires : goal.stmt_room-for_room-requires
 stmt_room-for_room-requires t c =

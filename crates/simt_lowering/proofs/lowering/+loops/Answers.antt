@@ -29,7 +29,7 @@ loops-loop-k-preserved t c =
     ap loop_nesting (first_of ops k op c.loop-k-test.true c.index-ops-k.is) in
     let whole : max c.loop-k.most (loop_nesting (ops_of (drop k ops))) ≡ loop_nesting (ops_of ops) = c.loop-k.invariant in
     let here : c.op_loops.result ≡ loop_nesting_in (op_of op) = c.op_loops.ensures in
-    let most : c.greater-most.result ≡ max c.loop-k.most c.op_loops.result = c.greater-most.ensures in
+    let most : c.max-most.result ≡ max c.loop-k.most c.op_loops.result = c.max-most.ensures in
     omega (arith, part, whole, here, most)
 
 pub loops-returns : goal.loops-returns
@@ -73,7 +73,7 @@ op_loops-returns-in-If t c =
     let deep : loop_nesting_in (op_of c.args.op.now) ≡ max (loop_nesting one) (loop_nesting other) = ap loop_nesting_in node in
     let a : c.loops.result ≡ loop_nesting one = c.loops.ensures in
     let b : c.loops-in-If.result ≡ loop_nesting other = c.loops-in-If.ensures in
-    let most : c.greater.result ≡ max c.loops.result c.loops-in-If.result = c.greater.ensures in
+    let most : c.max.result ≡ max c.loops.result c.loops-in-If.result = c.max.ensures in
     omega (arith, deep, a, b, most)
 
 pub op_loops-loops-requires-in-Loop : goal.op_loops-loops-requires-in-Loop
@@ -131,8 +131,8 @@ op_loops-overflow_add-result t c =
     let a : c.loops-in-Loop-3.result ≡ loop_nesting head = c.loops-in-Loop-3.ensures in
     let b : c.loops-in-Loop.result ≡ loop_nesting body = c.loops-in-Loop.ensures in
     let d : c.loops-in-Loop-2.result ≡ loop_nesting step = c.loops-in-Loop-2.ensures in
-    let inside : c.greater-inside.result ≡ max c.loops-in-Loop.result c.loops-in-Loop-2.result = c.greater-inside.ensures in
-    let most : c.greater-in-Loop.result ≡ max c.loops-in-Loop-3.result c.greater-inside.result = c.greater-in-Loop.ensures in
+    let inside : c.max-inside.result ≡ max c.loops-in-Loop.result c.loops-in-Loop-2.result = c.max-inside.ensures in
+    let most : c.max-in-Loop.result ≡ max c.loops-in-Loop-3.result c.max-inside.result = c.max-in-Loop.ensures in
     omega (arith, deep, low, a, b, d, inside, most)
 
 pub op_loops-returns-in-Loop : goal.op_loops-returns-in-Loop
@@ -147,8 +147,8 @@ op_loops-returns-in-Loop t c =
     let a : c.loops-in-Loop-3.result ≡ loop_nesting head = c.loops-in-Loop-3.ensures in
     let b : c.loops-in-Loop.result ≡ loop_nesting body = c.loops-in-Loop.ensures in
     let d : c.loops-in-Loop-2.result ≡ loop_nesting step = c.loops-in-Loop-2.ensures in
-    let inside : c.greater-inside.result ≡ max c.loops-in-Loop.result c.loops-in-Loop-2.result = c.greater-inside.ensures in
-    let most : c.greater-in-Loop.result ≡ max c.loops-in-Loop-3.result c.greater-inside.result = c.greater-in-Loop.ensures in
+    let inside : c.max-inside.result ≡ max c.loops-in-Loop.result c.loops-in-Loop-2.result = c.max-inside.ensures in
+    let most : c.max-in-Loop.result ≡ max c.loops-in-Loop-3.result c.max-inside.result = c.max-in-Loop.ensures in
     omega (arith, deep, a, b, d, inside, most)
 
 pub op_loops-loops-requires-in-Call : goal.op_loops-loops-requires-in-Call
