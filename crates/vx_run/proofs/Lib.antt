@@ -6,6 +6,7 @@ pub mod LayoutLaws
 pub mod MemoryLaws
 pub mod LaunchLaws
 pub mod Answerable
+pub mod ImageLaws
 pub mod TextLaws
 pub mod OneOutcome
 pub mod AnswerLaws
