@@ -1,5 +1,5 @@
 -- Words are read in one way.
-use Rattle.std.proofs.Common.{◌≡◌, ℕ, ◌+◌, ◌<◌, ◌≤◌, ◌⊎◌, inl, inr, Result, Ok, Err, List, [], ◌∷◌, length, get_or, drop, eqb, false, refl, sym, ap, ◌∙◌, subst, arith}
+use Rattle.std.proofs.Common.{◌≡◌, ℕ, ◌+◌, ◌<◌, ◌≤◌, ◌⊎◌, inl, inr, Result, Ok, Err, List, [], ◌∷◌, length, get_or, drop, eqb, true, false, refl, sym, ap, ◌∙◌, subst, arith}
 use Rattle.std.specs.Prelude.{codes}
 use Rattle.vx_words.specs.declared.command.Command.{Command}
 use Rattle.vx_words.specs.declared.command.Command.TheVariants.{Run, Build, Asm, Dis}
@@ -8,7 +8,7 @@ use Rattle.vx_words.specs.declared.usage.UsageKind.{UsageKind}
 use Rattle.std.specs.Result.{IsErrAnd}
 use Rattle.std.proofs.lemmas.Bool.{false≢true, eq-eqb}
 use Rattle.std.proofs.lemmas.Result.{err_from_is_err_and}
-use Rattle.vx_words.specs.Names.{IsName}
+use Rattle.vx_words.specs.Names.{IsName, is_name}
 use Rattle.vx_words.specs.declared.usage.UsageKind.TheVariants as usage
 use Rattle.vx_words.specs.declared.usage.UsageFault.{UsageFault}
 use Rattle.vx_words.specs.declared.usage.UsageFault.TheVariants.{Usage, Memory}
@@ -258,6 +258,32 @@ wrong_build behind word kind wrong = NoBuild behind word kind refl wrong
 pub no_source : (behind : List (List ℕ)) → length behind ≡ 0 → IsUsage (codes "build" ∷ behind) 1 usage.Missing
 no_source [] none = wrong_build [] 1 usage.Missing NoSource
 no_source (word ∷ more) none = absurd (omega (arith, none))
+
+pub no_entry : (behind rest : List (List ℕ)) (file : List ℕ) → behind ≡ file ∷ rest → length rest ≡ 0 → IsUsage (codes "build" ∷ behind) 2 usage.Missing
+no_entry behind [] file e none = subst (λ (b : List (List ℕ)). IsUsage (codes "build" ∷ b) 2 usage.Missing) (sym e) (wrong_build (file ∷ []) 2 usage.Missing (NoEntry file))
+no_entry behind (word ∷ more) file e none = absurd (omega (arith, none))
+
+no_name : (entry : List ℕ) → is_name entry ≡ false → IsName entry → ⊥
+no_name entry bad name = false≢true (sym bad ∙ name)
+
+pub bad_entry : (behind rest more : List (List ℕ)) (file entry : List ℕ) → behind ≡ file ∷ rest → rest ≡ entry ∷ more → is_name entry ≡ false → IsUsage (codes "build" ∷ behind) 2 usage.Form
+bad_entry behind rest more file entry e f bad =
+    let all : behind ≡ file ∷ entry ∷ more = e ∙ ap (λ (r : List (List ℕ)). file ∷ r) f in
+    subst (λ (b : List (List ℕ)). IsUsage (codes "build" ∷ b) 2 usage.Form) (sym all) (wrong_build (file ∷ entry ∷ more) 2 usage.Form (BadEntry file entry more (no_name entry bad)))
+
+pub word_behind_entry : (behind rest more : List (List ℕ)) (file entry : List ℕ) → behind ≡ file ∷ rest → rest ≡ entry ∷ more → is_name entry ≡ true → (length more ≡ 0 → ⊥) →
+    IsUsage (codes "build" ∷ behind) 3 usage.Form
+word_behind_entry behind rest [] file entry e f name some = absurd (some refl)
+word_behind_entry behind rest (word ∷ more) file entry e f name some =
+    let all : behind ≡ file ∷ entry ∷ word ∷ more = e ∙ ap (λ (r : List (List ℕ)). file ∷ r) f in
+    subst (λ (b : List (List ℕ)). IsUsage (codes "build" ∷ b) 3 usage.Form) (sym all) (wrong_build (file ∷ entry ∷ word ∷ more) 3 usage.Form (BehindEntry file entry word more name))
+
+pub entry_reads : (behind rest more : List (List ℕ)) (file entry : List ℕ) → behind ≡ file ∷ rest → rest ≡ entry ∷ more → is_name entry ≡ true → length more ≡ 0 →
+    IsCommand (codes "build" ∷ behind) (Build file entry)
+entry_reads behind rest [] file entry e f name none =
+    let all : behind ≡ file ∷ entry ∷ [] = e ∙ ap (λ (r : List (List ℕ)). file ∷ r) f in
+    Builds file entry name (ap (λ (b : List (List ℕ)). codes "build" ∷ b) all)
+entry_reads behind rest (word ∷ more) file entry e f name none = absurd (omega (arith, none))
 
 -- the word behind `asm` and `dis`
 pub asm_reads : (name : List ℕ) (behind : List (List ℕ)) (file : List ℕ) → name ≡ codes "asm" → behind ≡ file ∷ [] → IsCommand (name ∷ behind) (Asm file)
