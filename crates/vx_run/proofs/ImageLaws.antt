@@ -21,8 +21,8 @@ use Rattle.vx_run.proofs.Answerable.{Agree, MayBe}
 pub image_stops : (entry : List ℕ) (program : List FunctionNode) (fault : CompileFault) (s : Stop) → StopsForImage fault s → images.IsRefused program entry fault →
     StopsAt (FromEntry entry program) s
 image_stops entry program compile.NoEntry s is none = subst (StopsAt (FromEntry entry program)) (sym is) (NoKernel none)
-image_stops entry program (compile.Slots pos slots) s is h = subst (StopsAt (FromEntry entry program)) (sym is) (ManySlots h.0 pos slots h.1 h.2)
-image_stops entry program (compile.Words pos words) s is h = subst (StopsAt (FromEntry entry program)) (sym is) (ManyWords h.0 pos words h.1 h.2)
+image_stops entry program (compile.Slots pos slots) s is h = subst (StopsAt (FromEntry entry program)) (sym is) (ManySlots h.0 pos slots h.1.0 h.1.1)
+image_stops entry program (compile.Words pos words) s is h = subst (StopsAt (FromEntry entry program)) (sym is) (ManyWords h.0 pos words h.1.0 h.1.1)
 image_stops entry program compile.Memory s is h = subst (StopsAt (FromEntry entry program)) (sym is) tt
 
 -- no file stops it
@@ -65,15 +65,15 @@ module _ (entry : List ℕ) (program : List FunctionNode) where
   -- what is too large is not small enough
   many_slots_small : (number : ℕ) (pos : Pos) (slots : ℕ) → StandsAt program entry number pos → HasManySlots program number slots → IsSmallNamed program entry → ⊥
   many_slots_small number pos slots stands many small =
-      let same : small.0 ≡ number = some_same (kernel_from 0 entry program) small.0 number small.1 stands.found in
-      let few : images.IsSmall program number = subst (images.IsSmall program) same small.2 in
+      let same : small.0 ≡ number = some_same (kernel_from 0 entry program) small.0 number small.1.0 stands.found in
+      let few : images.IsSmall program number = subst (images.IsSmall program) same small.1.1 in
       omega (arith, many.0, few.0)
 
   many_words_small : (number : ℕ) (pos : Pos) (words : ℕ) → StandsAt program entry number pos → HasManyWords program number words → IsSmallNamed program entry → ⊥
   many_words_small number pos words stands many small =
-      let same : small.0 ≡ number = some_same (kernel_from 0 entry program) small.0 number small.1 stands.found in
-      let few : images.IsSmall program number = subst (images.IsSmall program) same small.2 in
-      omega (arith, many.1, few.1)
+      let same : small.0 ≡ number = some_same (kernel_from 0 entry program) small.0 number small.1.0 stands.found in
+      let few : images.IsSmall program number = subst (images.IsSmall program) same small.1.1 in
+      omega (arith, many.1.0, few.1)
 
   -- a frame that is too large is told before words that are too many
   slots_before_words : (number other : ℕ) (pos pos' : Pos) (slots words : ℕ) → StandsAt program entry number pos → StandsAt program entry other pos' →
@@ -93,7 +93,7 @@ module _ (entry : List ℕ) (program : List FunctionNode) where
       HasManyWords program number words → HasManyWords program other words' → cause.Source pos (source.Words words) ≡ cause.Source pos' (source.Words words')
   same_words number other pos pos' words words' stands stands' many many' =
       let there : HasManyWords program number words' = subst (λ n. HasManyWords program n words') (sym (one_number number other pos pos' stands stands')) many' in
-      let same : words ≡ words' = many.2 ∙ sym there.2 in
+      let same : words ≡ words' = many.1.1 ∙ sym there.1.1 in
       ap (λ (p : Pos). cause.Source p (source.Words words)) (one_place number other pos pos' stands stands') ∙ ap (λ (n : ℕ). cause.Source pos' (source.Words n)) same
 
 -- an entry comes to one refusal, or only to answers
@@ -101,7 +101,7 @@ pub one_entry : (entry : List ℕ) (program : List FunctionNode) (o p : Outcome)
 one_entry entry program o p (NoKernel none) (NoKernel none') = refl
 one_entry entry program o p (NoKernel none) (ManySlots number pos slots stands many) = absurd (some_none (kernel_from 0 entry program) number stands.found none)
 one_entry entry program o p (NoKernel none) (ManyWords number pos words stands many) = absurd (some_none (kernel_from 0 entry program) number stands.found none)
-one_entry entry program o p (NoKernel none) (HasImage image small named) = absurd (some_none (kernel_from 0 entry program) named.0 named.1 none)
+one_entry entry program o p (NoKernel none) (HasImage image small named) = absurd (some_none (kernel_from 0 entry program) named.0 named.1.0 none)
 one_entry entry program o p (ManySlots number pos slots stands many) (NoKernel none) = absurd (some_none (kernel_from 0 entry program) number stands.found none)
 one_entry entry program o p (ManySlots number pos slots stands many) (ManySlots other pos' slots' stands' many') =
     same_slots entry program number other pos pos' slots slots' stands stands' many many'
@@ -114,7 +114,7 @@ one_entry entry program o p (ManyWords number pos words stands many) (ManySlots 
 one_entry entry program o p (ManyWords number pos words stands many) (ManyWords other pos' words' stands' many') =
     same_words entry program number other pos pos' words words' stands stands' many many'
 one_entry entry program o p (ManyWords number pos words stands many) (HasImage image small named) = absurd (many_words_small entry program number pos words stands many small)
-one_entry entry program o p (HasImage image small named) (NoKernel none) = absurd (some_none (kernel_from 0 entry program) named.0 named.1 none)
+one_entry entry program o p (HasImage image small named) (NoKernel none) = absurd (some_none (kernel_from 0 entry program) named.0 named.1.0 none)
 one_entry entry program o p (HasImage image small named) (ManySlots number pos slots stands many) = absurd (many_slots_small entry program number pos slots stands many small)
 one_entry entry program o p (HasImage image small named) (ManyWords number pos words stands many) = absurd (many_words_small entry program number pos words stands many small)
 one_entry entry program o p (HasImage image small named) (HasImage image' small' named') = tt
