@@ -45,10 +45,10 @@ may_entry entry program o (ManySlots number pos slots stands many) = tt
 may_entry entry program o (ManyWords number pos words stands many) = tt
 may_entry entry program o (HasImage image small named) = refl
 
-some_same : {X : Type 0} (o : Option X) (x y : X) → o ≡ Some x → o ≡ Some y → x ≡ y
+pub some_same : {X : Type 0} (o : Option X) (x y : X) → o ≡ Some x → o ≡ Some y → x ≡ y
 some_same o x y e f = cc
 
-some_none : {X : Type 0} (o : Option X) (x : X) → o ≡ Some x → o ≡ None → ⊥
+pub some_none : {X : Type 0} (o : Option X) (x : X) → o ≡ Some x → o ≡ None → ⊥
 some_none o x e f = cc
 
 module _ (entry : List ℕ) (program : List FunctionNode) where
@@ -63,13 +63,13 @@ module _ (entry : List ℕ) (program : List FunctionNode) where
       h.here ∙ ap (λ (f : FunctionNode). f.name.pos) kernel ∙ sym k.here
 
   -- what is too large is not small enough
-  many_slots_small : (number : ℕ) (pos : Pos) (slots : ℕ) → StandsAt program entry number pos → HasManySlots program number slots → IsSmallNamed program entry → ⊥
+  pub many_slots_small : (number : ℕ) (pos : Pos) (slots : ℕ) → StandsAt program entry number pos → HasManySlots program number slots → IsSmallNamed program entry → ⊥
   many_slots_small number pos slots stands many small =
       let same : small.0 ≡ number = some_same (kernel_from 0 entry program) small.0 number small.1.0 stands.found in
       let few : images.IsSmall program number = subst (images.IsSmall program) same small.1.1 in
       omega (arith, many.0, few.0)
 
-  many_words_small : (number : ℕ) (pos : Pos) (words : ℕ) → StandsAt program entry number pos → HasManyWords program number words → IsSmallNamed program entry → ⊥
+  pub many_words_small : (number : ℕ) (pos : Pos) (words : ℕ) → StandsAt program entry number pos → HasManyWords program number words → IsSmallNamed program entry → ⊥
   many_words_small number pos words stands many small =
       let same : small.0 ≡ number = some_same (kernel_from 0 entry program) small.0 number small.1.0 stands.found in
       let few : images.IsSmall program number = subst (images.IsSmall program) same small.1.1 in

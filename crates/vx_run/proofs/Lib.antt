@@ -11,3 +11,4 @@ pub mod TextLaws
 pub mod OneOutcome
 pub mod AnswerLaws
 pub mod MeetsLaws
+pub mod BuildLaws

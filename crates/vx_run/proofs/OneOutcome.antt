@@ -22,13 +22,7 @@ use Rattle.vx_run.specs.Answers.{Chosen, Outcome, Refuses, Gives, Prints, Brings
 use Rattle.vx_words.specs.Commands.{IsUsage}
 use Rattle.vx_words.proofs.OneReading.{command_same, command_usage, usage_same}
 use Rattle.vx_run.proofs.Answerable.{Agree, of_text}
-use Rattle.vx_run.proofs.ImageLaws.{one_entry}
-
-some_same : {X : Type 0} (o : Option X) (x y : X) → o ≡ Some x → o ≡ Some y → x ≡ y
-some_same o x y e f = cc
-
-some_none : {X : Type 0} (o : Option X) (x : X) → o ≡ Some x → o ≡ None → ⊥
-some_none o x e f = cc
+use Rattle.vx_run.proofs.ImageLaws.{one_entry, some_none, some_same}
 
 -- a name is of one kernel
 one_kernel : (program : List FunctionNode) (name : List ℕ) (f g : FunctionNode) → IsKernelOf program name f → IsKernelOf program name g → f ≡ g
@@ -43,10 +37,10 @@ same_usage word other kind kind' h = ap (λ (w : ℕ). cause.Usage w kind) h.0 �
 errors_same : (fault fault' : SourceFault) → ◌≡◌ {A = Result (List FunctionNode) SourceFault} (Err fault) (Err fault') → fault ≡ fault'
 errors_same fault fault' e = cc
 
-oks_same : (program program' : List FunctionNode) → ◌≡◌ {A = Result (List FunctionNode) SourceFault} (Ok program) (Ok program') → program ≡ program'
+pub oks_same : (program program' : List FunctionNode) → ◌≡◌ {A = Result (List FunctionNode) SourceFault} (Ok program) (Ok program') → program ≡ program'
 oks_same program program' e = cc
 
-error_ok : (fault : SourceFault) (program : List FunctionNode) → ◌≡◌ {A = Result (List FunctionNode) SourceFault} (Err fault) (Ok program) → ⊥
+pub error_ok : (fault : SourceFault) (program : List FunctionNode) → ◌≡◌ {A = Result (List FunctionNode) SourceFault} (Err fault) (Ok program) → ⊥
 error_ok fault program e = absurd cc
 
 module _ (entries : List Entry) where
