@@ -40,7 +40,7 @@ returns c =
     let file : string_bytes c.in-Some.file.now ≡ c.in_ok-file.file = sym c.as_str.ensures.value ∙ c.in_ok-file.ensures in
     let entry : string_bytes c.in-Some-split_first.entry.now ≡ c.in_ok-entry.entry = sym c.as_str-2.ensures.value ∙ c.in_ok-entry.ensures in
     let asked = entry_reads (map string_bytes c.args.behind.now) (map string_bytes c.in-Some.behind_file.now) (map string_bytes more) (string_bytes c.in-Some.file.now)
-        (string_bytes c.in-Some-split_first.entry.now) (ap (map string_bytes) c.in-Some.ensures.cases.0) (ap (map string_bytes) c.in-Some-split_first.ensures.cases.0)
-        (ap is_name (sym c.as_bytes.ensures.value) ∙ sym c.if-not-is_name.ensures) none in
+    (string_bytes c.in-Some-split_first.entry.now) (ap (map string_bytes) c.in-Some.ensures.cases.0) (ap (map string_bytes) c.in-Some-split_first.ensures.cases.0)
+    (ap is_name (sym c.as_bytes.ensures.value) ∙ sym c.if-not-is_name.ensures) none in
     subst (λ f. IsCommand (codes "build" ∷ map string_bytes c.args.behind.now) (Build f c.in_ok-entry.entry)) file
     (subst (λ e. IsCommand (codes "build" ∷ map string_bytes c.args.behind.now) (Build (string_bytes c.in-Some.file.now) e)) entry asked)
