@@ -4,6 +4,7 @@
 //! - `text NAME`: a file, whose lines are those that begin with `| ` and follow; the last one has no end.
 //! - `ints NAME`: a file of 32-bit words, which follow in the line.
 //! - `> `: a line that is to be written; `. `: the front of a line that is to be written last.
+//! - `counts`: the words that are written are told as assembly by `dis`, and in place of them stands how many of its lines begin so.
 //! - `read fails` and `write fails`: the numbers of the calls that fail, from 0.
 //! - `bytes`: how many bytes a write takes at most, in place of 4096.
 
@@ -26,6 +27,8 @@ pub struct Row {
     pub failing_writes: Vec<u64>,
     /// How many bytes a write takes at most.
     pub most: usize,
+    /// How the lines of assembly begin that are counted; nothing where none are.
+    pub counts: String,
 }
 
 /// The rest of a line after a word and a blank.
@@ -85,6 +88,7 @@ impl Row {
             failing_reads: Vec::new(alloc),
             failing_writes: Vec::new(alloc),
             most: 4096,
+            counts: String::new(alloc),
         }
     }
 
@@ -101,7 +105,7 @@ impl Row {
     }
 
     /// Goes on with a file of these bytes.
-    fn push_file(&mut self, alloc: Global, name: &str, bytes: &[u8]) -> Result<(), AllocError> {
+    pub fn push_file(&mut self, alloc: Global, name: &str, bytes: &[u8]) -> Result<(), AllocError> {
         let name = text_of(alloc, name.as_bytes())?;
         let bytes = text_of(alloc, bytes)?;
         self.entries.push(Entry { name, bytes })?;
@@ -129,6 +133,9 @@ impl Row {
         }
         if let Some(numbers) = after(line, "write fails") {
             self.failing_writes = numbers_of(alloc, numbers)?;
+        }
+        if let Some(front) = after(line, "counts") {
+            self.counts = String::from_str(alloc, front)?;
         }
         if let Some(most) = after(line, "bytes") {
             self.most = most.parse::<usize>().unwrap_or(4096);

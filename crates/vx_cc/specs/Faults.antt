@@ -10,7 +10,7 @@ use Rattle.ocl_types.specs.declared.faults.TypeFault.{TypeFault}
 use Rattle.ocl_types.specs.declared.faults.TypeFault.TheVariants as types
 use Rattle.vx_cc.specs.declared.faults.SourceFault.{SourceFault}
 use Rattle.vx_cc.specs.declared.faults.SourceKind.{SourceKind}
-use Rattle.vx_cc.specs.declared.faults.SourceKind.TheVariants.{TooLong, BadByte, BadNumber, BadDirective, OpenComment, TooManyTokens, Unexpected, Subset, TooDeep, Unknown, Twice, Mismatch, Recursive, TooMany, TooNested, Syntax, Range, NoLabel, LabelTwice, Words, Memory}
+use Rattle.vx_cc.specs.declared.faults.SourceKind.TheVariants.{TooLong, BadByte, BadNumber, BadDirective, OpenComment, TooManyTokens, Unexpected, Subset, TooDeep, Unknown, Twice, Mismatch, Recursive, TooMany, TooNested, Syntax, Range, NoLabel, LabelTwice, Slots, Words, Memory}
 
 abbrev pub source_kind_text : SourceKind → List ℕ
 source_kind_text TooLong = codes "TooLong"
@@ -32,6 +32,7 @@ source_kind_text Syntax = codes "Syntax"
 source_kind_text Range = codes "Range"
 source_kind_text NoLabel = codes "NoLabel"
 source_kind_text LabelTwice = codes "LabelTwice"
+source_kind_text (Slots slots) = codes "Slots " ++ decimal slots
 source_kind_text (Words words) = codes "Words " ++ decimal words
 source_kind_text Memory = codes "Memory"
 

@@ -49,9 +49,14 @@ pub enum SourceKind {
     NoLabel,
     /// An earlier line has the label.
     LabelTwice,
-    /// There are more words than an image may have.
+    /// A lane of a kernel may need a larger frame than a lane may have.
+    Slots {
+        /// How many words of its frame a lane may need, 2^32 - 1 where there are more.
+        slots: u32,
+    },
+    /// There are more words than an image may have, or a kernel's code may take more.
     Words {
-        /// How many, up to the first that is one too many.
+        /// How many: of a text up to the first that is one too many; of a kernel 2^32 - 1 where there are more.
         words: u32,
     },
     /// Memory ran out.
@@ -95,6 +100,7 @@ impl fmt::Display for SourceKind {
             SourceKind::Range => write!(f, "Range"),
             SourceKind::NoLabel => write!(f, "NoLabel"),
             SourceKind::LabelTwice => write!(f, "LabelTwice"),
+            SourceKind::Slots { slots } => write!(f, "Slots {slots}"),
             SourceKind::Words { words } => write!(f, "Words {words}"),
             SourceKind::Memory => write!(f, "Memory"),
         }

@@ -32,14 +32,14 @@ use Rattle.vx_cc.specs.declared.faults.SourceFault.{SourceFault}
 use Rattle.vx_cc.specs.declared.faults.SourceKind.{SourceKind}
 use Rattle.vx_words.specs.Words.{IsRun, AreNumbersOf}
 use Rattle.vx_words.specs.declared.command.Command.{Command}
-use Rattle.vx_words.specs.declared.command.Command.TheVariants.{Run, Asm, Dis}
+use Rattle.vx_words.specs.declared.command.Command.TheVariants.{Run, Build, Asm, Dis}
 use Rattle.vx_words.specs.declared.usage.UsageKind.{UsageKind}
 use Rattle.vx_words.specs.Commands as commands
 use Rattle.vx_words.specs.Commands.{IsCommand, IsUsage}
 use Rattle.vx_words.proofs.OneReading.{command_usage}
 use Rattle.vx_run.specs.Answers as answers
 use Rattle.vx_run.specs.declared.stages.Answer.{Answer}
-use Rattle.vx_run.specs.Answers.{Outcome, Refuses, Gives, Prints, Chosen, bytes_in, most_source, IsKernelOf, FromArguments, WrongArguments, Runs, FromBuffers, FromKernel, HasForm, FromProgram, HasEntry, FromSource, LongSource, BadSource, HasProgram, FromFile, NoFile, HasFile, FromWords, WrongWords}
+use Rattle.vx_run.specs.Answers.{Outcome, Refuses, Gives, Prints, Chosen, bytes_in, most_source, IsKernelOf, FromArguments, WrongArguments, Runs, FromBuffers, FromKernel, HasForm, FromProgram, HasEntry, FromSource, LongSource, BadSource, HasProgram, FromFile, NoFile, HasFile, FromRun, FromWords, WrongWords}
 use Rattle.vx_run.specs.Stages.{StopsAt, ComesTo, HasKernel, IsNoKernel, IsNoKernelOf, SourceHasKernel, StageFaults, StageMisses, StopFaults, StopMisses, ReadsFront, StopsReading, IsRunnable, IsRunnableCommand, IsNoEntry, IsNoProgram, IsNotBuilt, IsPlain, IsSourceFault, IsWrongCount, StopsFor, StopsForSource, ReadsBehind}
 use Rattle.vx_run.proofs.LoadingLaws.{StopsAt-map}
 
@@ -77,11 +77,11 @@ misses_before before between now (stop.Refused c) e h = omega (arith, e, h)
 misses_before before between now stop.Memory e h = omega (arith, e, h)
 
 -- what stops the read of the kernel's file stops the call
-pub unread_file : (held : Option (List Entry)) (c : RunWords) (s : Stop) → StopsReading held c.file s → StopsAt (FromFile held c) s
-unread_file held c (stop.Refused (Missing missing)) h = subst (λ m. FromFile held c (Refuses (Missing m))) (sym h.0) (NoFile h.1)
-unread_file held c (stop.Refused (ReadFault faults)) h = h
-unread_file held c (stop.Refused other) h = absurd h
-unread_file held c stop.Memory h = tt
+pub unread_file : (held : Option (List Entry)) (file : List ℕ) (OfProgram : List FunctionNode → Outcome → Type 0) (s : Stop) → StopsReading held file s → StopsAt (FromFile held file OfProgram) s
+unread_file held file OfProgram (stop.Refused (Missing missing)) h = subst (λ m. FromFile held file OfProgram (Refuses (Missing m))) (sym h.0) (NoFile h.1)
+unread_file held file OfProgram (stop.Refused (ReadFault faults)) h = h
+unread_file held file OfProgram (stop.Refused other) h = absurd h
+unread_file held file OfProgram stop.Memory h = tt
 
 -- a file that is short enough was read whole
 whole_is_front : (held : Option (List Entry)) (name bytes : List ℕ) (front : ReadsFront held name 1048577 bytes) → length front.whole ≤ 1048576 → front.whole ≡ bytes
@@ -99,33 +99,27 @@ more_is_more held name bytes front long =
     let cut : length bytes ≡ min 1048577 (length front.whole) = ap length (sym front.front) ∙ length-take 1048577 front.whole in
     omega (arith, cut, long)
 
+-- what comes of the front of a file, comes of the file
+pub source_comes : (held : Option (List Entry)) (file bytes : List ℕ) (OfProgram : List FunctionNode → Outcome → Type 0) → ReadsFront held file 1048577 bytes →
+    (o : Outcome) → FromSource OfProgram bytes o → FromFile held file OfProgram o
+source_comes held file bytes OfProgram front o (LongSource long) = HasFile front.whole _ front.holds (LongSource (more_is_more held file bytes front long))
+source_comes held file bytes OfProgram front o (BadSource fault few is) =
+    HasFile front.whole _ front.holds (subst (λ x. FromSource OfProgram x _) (sym (whole_is_front held file bytes front (front_is_whole held file bytes front few))) (BadSource fault few is))
+source_comes held file bytes OfProgram front o (HasProgram program q few is h) =
+    HasFile front.whole _ front.holds (subst (λ x. FromSource OfProgram x _) (sym (whole_is_front held file bytes front (front_is_whole held file bytes front few))) (HasProgram program _ few is h))
+
 -- a source that has a fault is refused for it
-source_refused : (held : Option (List Entry)) (c : RunWords) (bytes : List ℕ) (pos : Pos) (kind : SourceKind) → IsSourceFault bytes pos kind → FromSource held c bytes (Refuses (Source pos kind))
-source_refused held c bytes pos kind (inl long) =
-    subst (λ p. FromSource held c bytes (Refuses (Source p kind))) (sym long.1) (subst (λ x. FromSource held c bytes (Refuses (Source first_place x))) (sym long.2) (LongSource long.0))
-source_refused held c bytes pos kind (inr bad) = BadSource (fault_at pos kind) bad.0 bad.1
-
--- the whole has the fault of what was read
-fault_of_whole : (held : Option (List Entry)) (name bytes : List ℕ) (front : ReadsFront held name 1048577 bytes) (pos : Pos) (kind : SourceKind) → IsSourceFault bytes pos kind → IsSourceFault front.whole pos kind
-fault_of_whole held name bytes front pos kind (inl long) = inl (more_is_more held name bytes front long.0, long.1, long.2)
-fault_of_whole held name bytes front pos kind (inr bad) =
-    let short : length front.whole ≤ 1048576 = front_is_whole held name bytes front bad.0 in
-    subst (λ x. IsSourceFault x pos kind) (sym (whole_is_front held name bytes front short)) (inr bad)
-
--- what comes of its front comes of a file
-pub file_comes : (held : Option (List Entry)) (c : RunWords) (bytes : List ℕ) → ReadsFront held c.file 1048577 bytes → length bytes ≤ most_source →
-    (o : Outcome) → FromSource held c bytes o → FromFile held c o
-file_comes held c bytes front few o h =
-    let short : length front.whole ≤ 1048576 = front_is_whole held c.file bytes front few in
-    HasFile front.whole o front.holds (subst (λ x. FromSource held c x o) (sym (whole_is_front held c.file bytes front short)) h)
+source_refused : (OfProgram : List FunctionNode → Outcome → Type 0) (bytes : List ℕ) (pos : Pos) (kind : SourceKind) → IsSourceFault bytes pos kind → FromSource OfProgram bytes (Refuses (Source pos kind))
+source_refused OfProgram bytes pos kind (inl long) =
+    subst (λ p. FromSource OfProgram bytes (Refuses (Source p kind))) (sym long.1) (subst (λ x. FromSource OfProgram bytes (Refuses (Source first_place x))) (sym long.2) (LongSource long.0))
+source_refused OfProgram bytes pos kind (inr bad) = BadSource (fault_at pos kind) bad.0 bad.1
 
 -- bytes that have no program stop the call
-no_program_stops : (held : Option (List Entry)) (c : RunWords) (bytes : List ℕ) → ReadsFront held c.file 1048577 bytes → (s : Stop) → IsNoProgram bytes s → StopsAt (FromFile held c) s
-no_program_stops held c bytes front (stop.Refused (Source pos kind)) h =
-    HasFile front.whole (Refuses (Source pos kind)) front.holds (source_refused held c front.whole pos kind (fault_of_whole held c.file bytes front pos kind h))
-no_program_stops held c bytes front (stop.Refused (ReadFault faults)) h = absurd h
-no_program_stops held c bytes front (stop.Refused other) h = absurd h
-no_program_stops held c bytes front stop.Memory h = tt
+pub no_program_stops : (OfProgram : List FunctionNode → Outcome → Type 0) (bytes : List ℕ) (s : Stop) → IsNoProgram bytes s → StopsAt (FromSource OfProgram bytes) s
+no_program_stops OfProgram bytes (stop.Refused (Source pos kind)) h = source_refused OfProgram bytes pos kind h
+no_program_stops OfProgram bytes (stop.Refused (ReadFault faults)) h = absurd h
+no_program_stops OfProgram bytes (stop.Refused other) h = absurd h
+no_program_stops OfProgram bytes stop.Memory h = tt
 
 -- a name that no kernel has stops the call
 entry_stops : (held : Option (List Entry)) (c : RunWords) (program : List FunctionNode) (s : Stop) → IsNoEntry program c.entry s → StopsAt (FromProgram held c program) s
@@ -148,10 +142,11 @@ kernel_stops held c program s (inr unbuilt) =
     StopsAt-map (FromKernel held c (record { program = program; kernel = unbuilt.0 })) (FromProgram held c program) (λ o h. HasEntry unbuilt.0 o unbuilt.1 h) s (form_stops held c (record { program = program; kernel = unbuilt.0 }) s unbuilt.2)
 
 -- a file without such a kernel stops the call
-pub source_stops : (held : Option (List Entry)) (c : RunWords) (bytes : List ℕ) → ReadsFront held c.file 1048577 bytes → (s : Stop) → IsNoKernelOf bytes c.entry s → StopsAt (FromFile held c) s
-source_stops held c bytes front s (inl none) = no_program_stops held c bytes front s none
+pub source_stops : (held : Option (List Entry)) (c : RunWords) (bytes : List ℕ) → ReadsFront held c.file 1048577 bytes → (s : Stop) → IsNoKernelOf bytes c.entry s → StopsAt (FromRun held c) s
+source_stops held c bytes front s (inl none) =
+    StopsAt-map (FromSource (FromProgram held c) bytes) (FromRun held c) (source_comes held c.file bytes (FromProgram held c) front) s (no_program_stops (FromProgram held c) bytes s none)
 source_stops held c bytes front s (inr bad) =
-    StopsAt-map (FromProgram held c bad.0) (FromFile held c) (λ o h. file_comes held c bytes front bad.1 o (HasProgram bad.0 o bad.1 bad.2 h)) s (kernel_stops held c bad.0 s bad.3)
+    StopsAt-map (FromProgram held c bad.0) (FromRun held c) (λ o h. source_comes held c.file bytes (FromProgram held c) front o (HasProgram bad.0 o bad.1 bad.2 h)) s (kernel_stops held c bad.0 s bad.3)
 
 -- the kernel of a file, and the program that it is of
 abbrev pub chosen_of : (bytes name : List ℕ) (form : Form) → SourceHasKernel bytes name form → Chosen
@@ -159,9 +154,9 @@ chosen_of bytes name form h = record { program = h.program; kernel = h.has.funct
 
 -- what comes of the buffers comes of the file
 pub buffers_come : (held : Option (List Entry)) (c : RunWords) (bytes : List ℕ) (form : Form) → ReadsFront held c.file 1048577 bytes → (h : SourceHasKernel bytes c.entry form) →
-    (o : Outcome) → FromBuffers held c (chosen_of bytes c.entry form h) 0 c.buffers [] o → FromFile held c o
+    (o : Outcome) → FromBuffers held c (chosen_of bytes c.entry form h) 0 c.buffers [] o → FromRun held c o
 buffers_come held c bytes form front h o rest =
-    file_comes held c bytes front h.few o (HasProgram h.program o h.few h.front (HasEntry h.has.function o h.has.named (HasForm form o h.has.formed rest)))
+    source_comes held c.file bytes (FromProgram held c) front o (HasProgram h.program o h.few h.front (HasEntry h.has.function o h.has.named (HasForm form o h.has.formed rest)))
 
 -- what is known of numbers of buffers
 numbers_below : (buffers : List BufWord) (ns : List ℕ) (names : List (List ℕ)) → AreNumbersOf buffers ns names → AllByRecursion (λ b. b < length buffers) ns
@@ -184,6 +179,7 @@ runnable words c h = record {
 -- a command that is read can be carried out
 pub runnable_command : (words : List (List ℕ)) (c : Command) → IsCommand words c → IsRunnableCommand c
 runnable_command words (Run c) (commands.Runs d h) = runnable words c h
+runnable_command words (Build file entry) h = tt
 runnable_command words (Asm file) h = tt
 runnable_command words (Dis file) h = tt
 

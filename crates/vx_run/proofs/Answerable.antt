@@ -25,6 +25,13 @@ abbrev pub MayBe : Outcome → Type 0
 MayBe (Refuses c) = IsAnswerable c
 MayBe (Gives answer) = answer.cause ≡ Done
 
+-- two outcomes are one refusal, or both give answers
+abbrev pub Agree : Outcome → Outcome → Type 0
+Agree (Refuses c) (Refuses d) = c ≡ d
+Agree (Refuses c) (Gives answer) = ⊥
+Agree (Gives answer) (Refuses c) = ⊥
+Agree (Gives answer) (Gives other) = Unit {0}
+
 -- what a text's file may come to
 abbrev pub IsOfText : Outcome → Type 0
 IsOfText (Gives answer) = answer.cause ≡ Done

@@ -6,7 +6,9 @@ pub mod LayoutLaws
 pub mod MemoryLaws
 pub mod LaunchLaws
 pub mod Answerable
+pub mod ImageLaws
 pub mod TextLaws
 pub mod OneOutcome
 pub mod AnswerLaws
 pub mod MeetsLaws
+pub mod BuildLaws

@@ -12,17 +12,18 @@ use Rattle.vx_run.specs.declared.report.Cause.TheVariants.{Done, Usage, Source, 
 use Rattle.vx_run.specs.declared.report.Report.{Report}
 use Rattle.vx_run.specs.declared.report.Activity.{Activity}
 use Rattle.vx_run.specs.declared.stages.Answer.{Answer}
-use Rattle.vx_run.specs.Answers.{Chosen, Outcome, Refuses, Gives, idle, refusal, FromWords, FromFile, FromSource, FromProgram, FromKernel, FromBuffers, FromArguments, WrongWords, RightWords, most_assembly, most_word_text, NoFile, HasFile, LongSource, BadSource, HasProgram, NoEntry, HasEntry, NotBuilt, HasForm, NoBuffers, NoBufferFile, WrongLength, NextBuffer, WrongArguments, Runs}
+use Rattle.vx_run.specs.Answers.{Chosen, Outcome, Refuses, Gives, idle, refusal, FromWords, FromFile, FromSource, FromEntry, FromProgram, FromKernel, FromBuffers, FromArguments, WrongWords, RightWords, most_assembly, most_word_text, NoFile, HasFile, LongSource, BadSource, HasProgram, NoEntry, HasEntry, NotBuilt, HasForm, NoBuffers, NoBufferFile, WrongLength, NextBuffer, WrongArguments, Runs}
 use Rattle.vx_run.specs.Delivery.{IsReportOf, Delivers, WholeText, SinkFailed, NoMemory}
 use Rattle.vx_run.specs.Lines.{status_of}
 use Rattle.vx_run.specs.Meets as promises
 use Rattle.vx_run.specs.Meets.{Outside, IsTold, EndsFor, EndsUnread, WasCounted, MayAnswer, AnswersWords, AnswersRefusal, AnswersFault, IsRefused, IsPrefix, VxMeets}
 use Rattle.vx_run.specs.Stages.{IsRefusal, CausesFaults, CausesMisses, ReadsBehind}
-use Rattle.vx_words.specs.declared.command.Command.TheVariants.{Run, Asm, Dis}
-use Rattle.vx_run.proofs.Answerable.{IsAnswerable, MayBe, of_text, of_text_may}
+use Rattle.vx_words.specs.declared.command.Command.TheVariants.{Run, Build, Asm, Dis}
+use Rattle.vx_run.proofs.Answerable.{Agree, IsAnswerable, MayBe, of_text, of_text_may}
+use Rattle.vx_run.proofs.ImageLaws.{may_entry}
 use Rattle.vx_run.specs.declared.stages.Stop.TheVariants.{Refused}
 use Rattle.vx_words.specs.declared.usage.UsageKind.{UsageKind}
-use Rattle.vx_run.proofs.OneOutcome.{Agree, one_outcome, one_usage, refused_words}
+use Rattle.vx_run.proofs.OneOutcome.{one_outcome, one_usage, refused_words}
 
 -- a refusal is a fault of a read, or one that the call comes to
 refusal_cases : (P : Outcome → Type 0) (c : Cause) → IsRefusal P c → ((faults : ℕ) × (c ≡ ReadFault faults) × (faults ≡ 1)) ⊎ P (Refuses c)
@@ -58,19 +59,21 @@ module _ (held : Option (List Entry)) where
   may_program c program o (NoEntry none) = tt
   may_program c program o (HasEntry f q is h) = may_kernel c (record { program = program; kernel = f }) o h
 
-  may_source : (c : RunWords) (bytes : List ℕ) (o : Outcome) → FromSource held c bytes o → MayBe o
-  may_source c bytes o (LongSource long) = tt
-  may_source c bytes o (BadSource fault few is) = tt
-  may_source c bytes o (HasProgram program q few is h) = may_program c program o h
+  module _ (OfProgram : List FunctionNode → Outcome → Type 0) (may : (program : List FunctionNode) (o : Outcome) → OfProgram program o → MayBe o) where
+    may_source : (bytes : List ℕ) (o : Outcome) → FromSource OfProgram bytes o → MayBe o
+    may_source bytes o (LongSource long) = tt
+    may_source bytes o (BadSource fault few is) = tt
+    may_source bytes o (HasProgram program q few is h) = may program o h
 
-  may_file : (c : RunWords) (o : Outcome) → FromFile held c o → MayBe o
-  may_file c o (NoFile none) = tt
-  may_file c o (HasFile bytes q there h) = may_source c bytes o h
+    may_file : (file : List ℕ) (o : Outcome) → FromFile held file OfProgram o → MayBe o
+    may_file file o (NoFile none) = tt
+    may_file file o (HasFile bytes q there h) = may_source bytes o h
 
   -- a call comes to such a refusal, or prints
   pub may_be : (words : List (List ℕ)) (o : Outcome) → FromWords held words o → MayBe o
   may_be words o (WrongWords word kind is) = tt
-  may_be words o (RightWords (Run c) q is h) = may_file c o h
+  may_be words o (RightWords (Run c) q is h) = may_file (FromProgram held c) (may_program c) c.file o h
+  may_be words o (RightWords (Build file entry) q is h) = may_file (FromEntry entry) (may_entry entry) file o h
   may_be words o (RightWords (Asm file) q is h) = of_text_may o (of_text held file most_assembly _ o h)
   may_be words o (RightWords (Dis file) q is h) = of_text_may o (of_text held file most_word_text _ o h)
 

@@ -17,24 +17,12 @@ use Rattle.ocl_types.specs.Functions.{kernel_from}
 use Rattle.vx_cc.specs.declared.faults.SourceFault.{SourceFault}
 use Rattle.vx_cc.proofs.OneFront.{one_front}
 use Rattle.vx_words.specs.declared.command.Command.{Command}
-use Rattle.vx_words.specs.declared.command.Command.TheVariants.{Run, Asm, Dis}
-use Rattle.vx_run.specs.Answers.{Chosen, Outcome, Refuses, Gives, Prints, Brings, counted_bytes, FromArguments, WrongArguments, Runs, FromBuffers, NoBuffers, NoBufferFile, WrongLength, NextBuffer, IsKernelOf, FromKernel, NotBuilt, HasForm, FromProgram, NoEntry, HasEntry, FromSource, LongSource, BadSource, HasProgram, FromFile, NoFile, HasFile, FromBytes, TooLong, BadText, GoodText, FromText, NoText, HasText, FromCommand, most_assembly, most_word_text, FromWords, WrongWords, RightWords}
+use Rattle.vx_words.specs.declared.command.Command.TheVariants.{Run, Build, Asm, Dis}
+use Rattle.vx_run.specs.Answers.{Chosen, Outcome, Refuses, Gives, Prints, Brings, counted_bytes, FromArguments, WrongArguments, Runs, FromBuffers, NoBuffers, NoBufferFile, WrongLength, NextBuffer, IsKernelOf, FromKernel, NotBuilt, HasForm, FromProgram, NoEntry, HasEntry, FromSource, LongSource, BadSource, HasProgram, FromFile, NoFile, HasFile, FromRun, FromEntry, FromBytes, TooLong, BadText, GoodText, FromText, NoText, HasText, FromCommand, most_assembly, most_word_text, FromWords, WrongWords, RightWords}
 use Rattle.vx_words.specs.Commands.{IsUsage}
 use Rattle.vx_words.proofs.OneReading.{command_same, command_usage, usage_same}
-use Rattle.vx_run.proofs.Answerable.{of_text}
-
--- two outcomes are one refusal, or both give answers
-abbrev pub Agree : Outcome → Outcome → Type 0
-Agree (Refuses c) (Refuses d) = c ≡ d
-Agree (Refuses c) (Gives answer) = ⊥
-Agree (Gives answer) (Refuses c) = ⊥
-Agree (Gives answer) (Gives other) = Unit {0}
-
-some_same : {X : Type 0} (o : Option X) (x y : X) → o ≡ Some x → o ≡ Some y → x ≡ y
-some_same o x y e f = cc
-
-some_none : {X : Type 0} (o : Option X) (x : X) → o ≡ Some x → o ≡ None → ⊥
-some_none o x e f = cc
+use Rattle.vx_run.proofs.Answerable.{Agree, of_text}
+use Rattle.vx_run.proofs.ImageLaws.{one_entry, some_none, some_same}
 
 -- a name is of one kernel
 one_kernel : (program : List FunctionNode) (name : List ℕ) (f g : FunctionNode) → IsKernelOf program name f → IsKernelOf program name g → f ≡ g
@@ -49,10 +37,10 @@ same_usage word other kind kind' h = ap (λ (w : ℕ). cause.Usage w kind) h.0 �
 errors_same : (fault fault' : SourceFault) → ◌≡◌ {A = Result (List FunctionNode) SourceFault} (Err fault) (Err fault') → fault ≡ fault'
 errors_same fault fault' e = cc
 
-oks_same : (program program' : List FunctionNode) → ◌≡◌ {A = Result (List FunctionNode) SourceFault} (Ok program) (Ok program') → program ≡ program'
+pub oks_same : (program program' : List FunctionNode) → ◌≡◌ {A = Result (List FunctionNode) SourceFault} (Ok program) (Ok program') → program ≡ program'
 oks_same program program' e = cc
 
-error_ok : (fault : SourceFault) (program : List FunctionNode) → ◌≡◌ {A = Result (List FunctionNode) SourceFault} (Err fault) (Ok program) → ⊥
+pub error_ok : (fault : SourceFault) (program : List FunctionNode) → ◌≡◌ {A = Result (List FunctionNode) SourceFault} (Err fault) (Ok program) → ⊥
 error_ok fault program e = absurd cc
 
 module _ (entries : List Entry) where
@@ -116,25 +104,26 @@ module _ (entries : List Entry) where
       one_form c (record { program = program; kernel = f }) o p h
       (subst (λ g. FromKernel told c (record { program = program; kernel = g }) p) (one_kernel program c.entry f' f is' is) h')
 
-  one_source : (c : RunWords) (bytes : List ℕ) (o p : Outcome) → FromSource told c bytes o → FromSource told c bytes p → Agree o p
-  one_source c bytes o p (LongSource long) (LongSource long') = refl
-  one_source c bytes o p (LongSource long) (BadSource fault few is) = absurd (omega (arith, long, few))
-  one_source c bytes o p (LongSource long) (HasProgram program q few is h) = absurd (omega (arith, long, few))
-  one_source c bytes o p (BadSource fault few is) (LongSource long) = absurd (omega (arith, long, few))
-  one_source c bytes o p (BadSource fault few is) (BadSource fault' few' is') =
-      ap (λ (f : SourceFault). cause.Source f.pos f.kind) (errors_same fault fault' (one_front bytes (Err fault) (Err fault') is is'))
-  one_source c bytes o p (BadSource fault few is) (HasProgram program q few' is' h) = absurd (error_ok fault program (one_front bytes (Err fault) (Ok program) is is'))
-  one_source c bytes o p (HasProgram program q few is h) (LongSource long) = absurd (omega (arith, long, few))
-  one_source c bytes o p (HasProgram program q few is h) (BadSource fault few' is') = absurd (error_ok fault program (one_front bytes (Err fault) (Ok program) is' is))
-  one_source c bytes o p (HasProgram program q few is h) (HasProgram program' q' few' is' h') =
-      one_program c program o p h (subst (λ x. FromProgram told c x p) (oks_same program' program (one_front bytes (Ok program') (Ok program) is' is)) h')
+  module _ (OfProgram : List FunctionNode → Outcome → Type 0) (agree : (program : List FunctionNode) (o p : Outcome) → OfProgram program o → OfProgram program p → Agree o p) where
+    one_source : (bytes : List ℕ) (o p : Outcome) → FromSource OfProgram bytes o → FromSource OfProgram bytes p → Agree o p
+    one_source bytes o p (LongSource long) (LongSource long') = refl
+    one_source bytes o p (LongSource long) (BadSource fault few is) = absurd (omega (arith, long, few))
+    one_source bytes o p (LongSource long) (HasProgram program q few is h) = absurd (omega (arith, long, few))
+    one_source bytes o p (BadSource fault few is) (LongSource long) = absurd (omega (arith, long, few))
+    one_source bytes o p (BadSource fault few is) (BadSource fault' few' is') =
+        ap (λ (f : SourceFault). cause.Source f.pos f.kind) (errors_same fault fault' (one_front bytes (Err fault) (Err fault') is is'))
+    one_source bytes o p (BadSource fault few is) (HasProgram program q few' is' h) = absurd (error_ok fault program (one_front bytes (Err fault) (Ok program) is is'))
+    one_source bytes o p (HasProgram program q few is h) (LongSource long) = absurd (omega (arith, long, few))
+    one_source bytes o p (HasProgram program q few is h) (BadSource fault few' is') = absurd (error_ok fault program (one_front bytes (Err fault) (Ok program) is' is))
+    one_source bytes o p (HasProgram program q few is h) (HasProgram program' q' few' is' h') =
+        agree program o p h (subst (λ x. OfProgram x p) (oks_same program' program (one_front bytes (Ok program') (Ok program) is' is)) h')
 
-  one_file : (c : RunWords) (o p : Outcome) → FromFile told c o → FromFile told c p → Agree o p
-  one_file c o p (NoFile none) (NoFile none') = refl
-  one_file c o p (NoFile none) (HasFile bytes q there h) = absurd (some_none (bytes_named entries c.file) bytes there none)
-  one_file c o p (HasFile bytes q there h) (NoFile none) = absurd (some_none (bytes_named entries c.file) bytes there none)
-  one_file c o p (HasFile bytes q there h) (HasFile bytes' q' there' h') =
-      one_source c bytes o p h (subst (λ x. FromSource told c x p) (some_same (bytes_named entries c.file) bytes' bytes there' there) h')
+    one_file : (file : List ℕ) (o p : Outcome) → FromFile told file OfProgram o → FromFile told file OfProgram p → Agree o p
+    one_file file o p (NoFile none) (NoFile none') = refl
+    one_file file o p (NoFile none) (HasFile bytes q there h) = absurd (some_none (bytes_named entries file) bytes there none)
+    one_file file o p (HasFile bytes q there h) (NoFile none) = absurd (some_none (bytes_named entries file) bytes there none)
+    one_file file o p (HasFile bytes q there h) (HasFile bytes' q' there' h') =
+        one_source bytes o p h (subst (λ x. FromSource OfProgram x p) (some_same (bytes_named entries file) bytes' bytes there' there) h')
 
   one_refusal : (o : Outcome) (c d : Cause) → o ≡ Refuses c → o ≡ Refuses d → c ≡ d
   one_refusal o c d e f = cc
@@ -161,7 +150,8 @@ module _ (entries : List Entry) where
       one_bytes limit outcome bytes o p h (subst (λ x. FromBytes limit outcome x p) (some_same (bytes_named entries file) bytes' bytes there' there) h')
 
   one_command : (c : Command) (o p : Outcome) → FromCommand told c o → FromCommand told c p → Agree o p
-  one_command (Run c) o p h h' = one_file c o p h h'
+  one_command (Run c) o p h h' = one_file (FromProgram told c) (one_program c) c.file o p h h'
+  one_command (Build file entry) o p h h' = one_file (FromEntry entry) (one_entry entry) file o p h h'
   one_command (Asm file) o p h h' = one_text file most_assembly _ o p h h'
   one_command (Dis file) o p h h' = one_text file most_word_text _ o p h h'
 
@@ -185,14 +175,19 @@ module _ (held : Option (List Entry)) (word : ℕ) (kind : UsageKind) where
   no_usage_program : (c : RunWords) (program : List FunctionNode) → FromProgram held c program (Refuses (cause.Usage word kind)) → ⊥
   no_usage_program c program (HasEntry f q is h) = no_usage_kernel c (record { program = program; kernel = f }) h
 
-  no_usage_source : (c : RunWords) (bytes : List ℕ) → FromSource held c bytes (Refuses (cause.Usage word kind)) → ⊥
-  no_usage_source c bytes (HasProgram program q few is h) = no_usage_program c program h
+  no_usage_entry : (entry : List ℕ) (program : List FunctionNode) → FromEntry entry program (Refuses (cause.Usage word kind)) → ⊥
+  no_usage_entry entry program h = elim h [ ]
 
-  no_usage_file : (c : RunWords) → FromFile held c (Refuses (cause.Usage word kind)) → ⊥
-  no_usage_file c (HasFile bytes q there h) = no_usage_source c bytes h
+  module _ (OfProgram : List FunctionNode → Outcome → Type 0) (no_usage : (program : List FunctionNode) → OfProgram program (Refuses (cause.Usage word kind)) → ⊥) where
+    no_usage_source : (bytes : List ℕ) → FromSource OfProgram bytes (Refuses (cause.Usage word kind)) → ⊥
+    no_usage_source bytes (HasProgram program q few is h) = no_usage program h
+
+    no_usage_file : (file : List ℕ) → FromFile held file OfProgram (Refuses (cause.Usage word kind)) → ⊥
+    no_usage_file file (HasFile bytes q there h) = no_usage_source bytes h
 
   no_usage_command : (c : Command) → FromCommand held c (Refuses (cause.Usage word kind)) → ⊥
-  no_usage_command (Run c) h = no_usage_file c h
+  no_usage_command (Run c) h = no_usage_file (FromProgram held c) (no_usage_program c) c.file h
+  no_usage_command (Build file entry) h = no_usage_file (FromEntry entry) (no_usage_entry entry) file h
   no_usage_command (Asm file) h = of_text held file most_assembly _ _ h
   no_usage_command (Dis file) h = of_text held file most_word_text _ _ h
 

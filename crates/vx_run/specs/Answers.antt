@@ -8,7 +8,7 @@ use Rattle.vx_words.specs.declared.run_words.BufFrom.TheVariants.{File, Zero}
 use Rattle.vx_words.specs.declared.run_words.BufWord.{BufWord}
 use Rattle.vx_words.specs.declared.run_words.RunWords.{RunWords}
 use Rattle.vx_words.specs.declared.command.Command.{Command}
-use Rattle.vx_words.specs.declared.command.Command.TheVariants.{Run, Asm, Dis}
+use Rattle.vx_words.specs.declared.command.Command.TheVariants.{Run, Build, Asm, Dis}
 use Rattle.vx_words.specs.declared.usage.UsageKind.{UsageKind}
 use Rattle.vx_words.specs.Commands.{IsCommand, IsUsage}
 use Rattle.asm_text.specs.declared.hexadecimal.HexFault.{HexFault}
@@ -32,18 +32,29 @@ use Rattle.vx_run.specs.declared.report.Cause.TheVariants as cause
 use Rattle.first_kernels.specs.FirstTree.{Form}
 use Rattle.first_kernels.specs.FirstForms.{form_from}
 use Rattle.first_kernels.specs.FirstSources.{source_launch}
+use Rattle.kernel_images.specs.Images.{IsImageNamed}
+use Rattle.kernel_images.specs.Refusals.{HasManySlots, HasManyWords, IsSmallNamed, StandsAt}
+use Rattle.vx_isa.specs.declared.image.Image.{Image}
 use Rattle.vx_run.specs.declared.report.Activity.{Activity}
 use Rattle.vx_run.specs.declared.stages.Answer.{Answer}
 use Rattle.vx_run.specs.Lines.{line_of}
 use Rattle.vx_run.specs.Output.{output_text}
 
--- nothing ran on the machine
+-- nothing was made, and nothing ran on the machine
 abbrev pub idle : Activity
-idle = record {}
+idle = record { images = [] }
+
+-- one image was made, and nothing ran
+abbrev pub made : Image → Activity
+made image = record { images = image ∷ [] }
 
 -- the answer of a call that prints a text
 abbrev pub printed : List ℕ → Answer
 printed text = record { cause = cause.Done; text = text; activity = idle }
+
+-- the answer of a call that makes an image: its words, in lines
+abbrev pub built : Image → Answer
+built image = record { cause = cause.Done; text = hex_lines image.words; activity = made image }
 
 -- the answer of a call that is refused: the line that names the cause
 abbrev pub refusal : Cause → Answer
@@ -122,17 +133,31 @@ pub data FromProgram (held : Option (List Entry)) (c : RunWords) (program : List
 abbrev pub most_source : ℕ
 most_source = 1048576
 
--- the source: these bytes are few enough, and have a program
-pub data FromSource (held : Option (List Entry)) (c : RunWords) (bytes : List ℕ) : Outcome → Type 0 where
-  LongSource : most_source < length bytes → FromSource held c bytes (Refuses (cause.Source first_place source.TooLong))
+-- the source: these bytes are few enough, and have a program, which comes to what `OfProgram` says
+pub data FromSource (OfProgram : List FunctionNode → Outcome → Type 0) (bytes : List ℕ) : Outcome → Type 0 where
+  LongSource : most_source < length bytes → FromSource OfProgram bytes (Refuses (cause.Source first_place source.TooLong))
   BadSource : (fault : SourceFault) → length bytes ≤ most_source → FrontOf bytes (Err fault) →
-      FromSource held c bytes (Refuses (cause.Source fault.pos fault.kind))
-  HasProgram : (program : List FunctionNode) (o : Outcome) → length bytes ≤ most_source → FrontOf bytes (Ok program) → FromProgram held c program o → FromSource held c bytes o
+      FromSource OfProgram bytes (Refuses (cause.Source fault.pos fault.kind))
+  HasProgram : (program : List FunctionNode) (o : Outcome) → length bytes ≤ most_source → FrontOf bytes (Ok program) → OfProgram program o → FromSource OfProgram bytes o
 
 -- the kernel's file: it is there
-pub data FromFile (held : Option (List Entry)) (c : RunWords) : Outcome → Type 0 where
-  NoFile : Holds held c.file None → FromFile held c (Refuses (cause.Missing c.file))
-  HasFile : (bytes : List ℕ) (o : Outcome) → Holds held c.file (Some bytes) → FromSource held c bytes o → FromFile held c o
+pub data FromFile (held : Option (List Entry)) (file : List ℕ) (OfProgram : List FunctionNode → Outcome → Type 0) : Outcome → Type 0 where
+  NoFile : Holds held file None → FromFile held file OfProgram (Refuses (cause.Missing file))
+  HasFile : (bytes : List ℕ) (o : Outcome) → Holds held file (Some bytes) → FromSource OfProgram bytes o → FromFile held file OfProgram o
+
+-- what `run` comes to, its words read
+abbrev pub FromRun : Option (List Entry) → RunWords → Outcome → Type 0
+FromRun held c o = FromFile held c.file (FromProgram held c) o
+
+-- The image of the kernel of this name: no kernel has the name; a lane of the kernel may need too large a frame, or else its code may take
+-- too many words, with the place of the kernel's name; or the words of an image of the kernel are printed.
+pub data FromEntry (entry : List ℕ) (program : List FunctionNode) : Outcome → Type 0 where
+  NoKernel : kernel_from 0 entry program ≡ None → FromEntry entry program (Refuses (cause.Launch 0 launch.NoEntry))
+  ManySlots : (number : ℕ) (pos : Pos) (slots : ℕ) → StandsAt program entry number pos → HasManySlots program number slots →
+      FromEntry entry program (Refuses (cause.Source pos (source.Slots slots)))
+  ManyWords : (number : ℕ) (pos : Pos) (words : ℕ) → StandsAt program entry number pos → HasManyWords program number words →
+      FromEntry entry program (Refuses (cause.Source pos (source.Words words)))
+  HasImage : (image : Image) → IsSmallNamed program entry → IsImageNamed program entry image → FromEntry entry program (Gives (built image))
 
 -- why an assembly text is refused, and a text of words; want of memory is no refusal of a text
 abbrev pub asm_cause : AsmFault → Cause
@@ -183,13 +208,14 @@ most_word_text = 1048576
 
 -- what a command comes to
 abbrev pub FromCommand : Option (List Entry) → Command → Outcome → Type 0
-FromCommand held (Run c) o = FromFile held c o
+FromCommand held (Run c) o = FromRun held c o
+FromCommand held (Build file entry) o = FromFile held file (FromEntry entry) o
 FromCommand held (Asm file) o = FromText held file most_assembly assembly_text_outcome o
 FromCommand held (Dis file) o = FromText held file most_word_text word_text_outcome o
 
 -- What a call with these words over these files comes to, where no read fails: first by its words, and then by what they
 -- ask for. `run` comes to what the kernel's file, its text, the entry, the buffers in order, the arguments and the run
--- say; `asm` and `dis` to what their file and its text say.
+-- say; `build` to what the kernel's file, its text and the entry say; `asm` and `dis` to what their file and its text say.
 pub data FromWords (held : Option (List Entry)) (words : List (List ℕ)) : Outcome → Type 0 where
   WrongWords : (word : ℕ) (kind : UsageKind) → IsUsage words word kind → FromWords held words (Refuses (cause.Usage word kind))
   RightWords : (c : Command) (o : Outcome) → IsCommand words c → FromCommand held c o → FromWords held words o

@@ -89,9 +89,10 @@ pub record VxMeets (held : Option (List Entry)) (words : List (List ℕ)) (befor
   pub write_fault : (faults : ℕ) → report.cause ≡ WriteFault faults → (faults ≡ 1) × Rose before.write_faults now.write_faults
   -- what is written is always the front of a text, and mostly all of it
   pub prefix : IsPrefix held words before now report
-  -- with status 0 the printed buffers are those that the launch leaves, written whole
+  -- with status 0 the text of an answer that the words come to was written whole, as that of buffers that the launch leaves, or of the words of an
+  -- image; and the report tells what was made and what ran for it
   pub headline : report.cause ≡ Done → (a : Answer) × FromWords held words (Gives a) × (a.cause ≡ Done)
       × (report.activity ≡ a.activity) × Appends before.written now.written a.text
-  -- where no refusal's row holds and no fault was counted, the buffers are printed, unless memory ran out
+  -- where no refusal's row holds and no fault was counted, the answer is written, unless memory ran out
   pub complete : ((cause : Cause) → IsRefused held words cause → ⊥) → (Rose before.read_faults now.read_faults → ⊥) →
       (Rose before.write_faults now.write_faults → ⊥) → (report.cause ≡ Done) ⊎ (report.cause ≡ Memory)

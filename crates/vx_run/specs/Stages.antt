@@ -22,8 +22,10 @@ use Rattle.asm_text.specs.declared.hexadecimal.HexFault.TheVariants as hex
 use Rattle.asm_text.specs.declared.statements.AsmFault.{AsmFault}
 use Rattle.asm_text.specs.declared.statements.AsmFault.TheVariants as asm
 use Rattle.vx_words.specs.declared.command.Command.{Command}
-use Rattle.vx_words.specs.declared.command.Command.TheVariants.{Run, Asm, Dis}
+use Rattle.vx_words.specs.declared.command.Command.TheVariants.{Run, Build, Asm, Dis}
 use Rattle.vx_run.specs.declared.stages.Answer.{Answer}
+use Rattle.kernel_images.specs.declared.compiling.CompileFault.{CompileFault}
+use Rattle.kernel_images.specs.declared.compiling.CompileFault.TheVariants as compile
 use Rattle.vx_run.specs.declared.report.LaunchKind.TheVariants as launch
 use Rattle.first_kernels.specs.FirstForms.{form_from}
 use Rattle.ocl_program.specs.Nodes.{FunctionNode}
@@ -172,6 +174,13 @@ abbrev pub StopsFor : UsageFault → Stop → Type 0
 StopsFor (Usage word kind) stop = stop ≡ Refused (cause.Usage word kind)
 StopsFor NoMemory stop = stop ≡ Memory
 
+-- a kernel without an image stops the call, and so does want of memory
+abbrev pub StopsForImage : CompileFault → Stop → Type 0
+StopsForImage compile.NoEntry stop = stop ≡ Refused (cause.Launch 0 launch.NoEntry)
+StopsForImage (compile.Slots pos slots) stop = stop ≡ Refused (cause.Source pos (source.Slots slots))
+StopsForImage (compile.Words pos words) stop = stop ≡ Refused (cause.Source pos (source.Words words))
+StopsForImage compile.Memory stop = stop ≡ Memory
+
 -- a text that is refused stops the call, and so does want of memory
 abbrev pub StopsForAsm : AsmFault → Stop → Type 0
 StopsForAsm asm.Memory stop = stop ≡ Memory
@@ -190,5 +199,6 @@ ReadsBehind words Memory = Unit {0}
 -- what a command is known to be, once its words are read
 abbrev pub IsRunnableCommand : Command → Type 0
 IsRunnableCommand (Run c) = IsRunnable c
+IsRunnableCommand (Build file entry) = Unit {0}
 IsRunnableCommand (Asm file) = Unit {0}
 IsRunnableCommand (Dis file) = Unit {0}

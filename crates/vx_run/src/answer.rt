@@ -1,19 +1,20 @@
-//! What a call comes to, stage by stage in the order of its answers: the words, the kernel's file, its text, the entry, the
-//! kernel's form, the buffers, the arguments and the run.
+//! What a call comes to, stage by stage in the order of its answers: the words, and for `run` the kernel's file, its text, the
+//! entry, the kernel's form, the buffers, the arguments and the run.
 //!
 //! [`answer`] is the whole; each stage gives its value or says why the call stops.
 
-ghost use Rattle.std.specs.Prelude.{◌≡◌, ◌*◌, ◌<◌, ◌≤◌, All, length, map, string_bytes, Ok, Some, IfOk, IfErr, OnOk};
+ghost use Rattle.std.specs.Prelude.{◌≡◌, ◌*◌, ◌<◌, ◌≤◌, All, length, map, string_bytes, Some, IfOk, IfErr, OnOk};
 ghost use Rattle.ocl_program.specs.Shapes.{function_node};
 ghost use Rattle.ocl_types.specs.Functions.{kernel_from};
 ghost use Rattle.first_kernels.specs.FirstForms.{form_from, IsFit};
 ghost use Rattle.first_kernels.specs.FirstTree.{form_of};
-ghost use Rattle.vx_cc.specs.Fronts.{FrontOf};
-ghost use Rattle.vx_run.specs.Answers.{Chosen, FromArguments, FromCommand, FromFile, FromWords, Prints, most_source};
-ghost use Rattle.vx_run.specs.Stages.{ComesTo, HasKernel, IsNoEntry, IsNoKernel, IsNoKernelOf, IsNoProgram, IsNotBuilt, IsPlain, IsRunnable, IsRunnableCommand, IsWrongCount, ReadsBehind, SourceHasKernel, StageFaults, StageMisses, StopsAt};
+ghost use Rattle.vx_run.specs.Answers.{Chosen, FromArguments, FromCommand, FromRun, FromWords, Prints};
+ghost use Rattle.vx_run.specs.Stages.{ComesTo, HasKernel, IsNoEntry, IsNoKernel, IsNoKernelOf, IsNotBuilt, IsPlain, IsRunnable, IsRunnableCommand, IsWrongCount, ReadsBehind, SourceHasKernel, StageFaults, StageMisses, StopsAt};
 
+use crate::building::answer_build;
 use crate::launch::print_launch;
 use crate::loading::load_buffers;
+use crate::programs::{SOURCE_LIMIT, program_of};
 use crate::reading::read_file;
 use crate::report::{Cause, LaunchKind};
 use crate::stages::{Answer, Stop};
@@ -24,30 +25,14 @@ use ocl_program::TypedFunction;
 use ocl_types::Program;
 use std::alloc::Global;
 use vx_base::Text;
-use vx_cc::front;
 use vx_words::{Command, RunWords, read_words};
 use vx_world::Files;
-
-/// The most bytes that a kernel's file may have.
-pub const SOURCE_LIMIT: usize = 1_048_576;
 
 /// The refusal of the one launch that the words ask for.
 fn launch_stop(kind: LaunchKind) -> Stop
     ensures { result ≡ Stop.Refused (Cause.Launch 0 kind) }
 {
     Stop::Refused(Cause::Launch { index: 0, kind })
-}
-
-/// The program of a kernel's file with these bytes.
-fn program_of(alloc: Global, source: &[u8]) -> Result<Program, Stop>
-    ensures few { IfOk result (λ program. length source.now ≤ most_source) }
-    ensures found { IfOk result (λ program. FrontOf source.now (Ok (map function_node program.functions.items))) }
-    ensures stop { IfErr result (IsNoProgram source.now) }
-{
-    if source.len() > SOURCE_LIMIT {
-        return Err(Stop::too_long());
-    }
-    Ok(front(alloc, source)?)
 }
 
 /// The number of the kernel that has this name.
@@ -125,7 +110,7 @@ fn launch(alloc: Global, run: &RunWords, kernel: &Kernel, contents: &[Text]) -> 
 /// What `run` comes to: the buffers that the launch leaves, printed.
 fn answer_run<F: Files>(alloc: Global, files: &mut F, run: &RunWords) -> Result<Answer, Stop>
     requires { IsRunnable run.now }
-    ensures comes { ComesTo (FromFile (F.held files.old) run.now) result }
+    ensures comes { ComesTo (FromRun (F.held files.old) run.now) result }
     ensures faults { StageFaults result (F.faults files.old) (F.faults files.new) }
     ensures misses { StageMisses result (F.misses files.old) (F.misses files.new) }
 {
@@ -133,7 +118,7 @@ fn answer_run<F: Files>(alloc: Global, files: &mut F, run: &RunWords) -> Result<
     let kernel = kernel_of_source(alloc, &source, run.entry.as_slice())?;
     let contents = load_buffers(alloc, files, run)?;
     let text = launch(alloc, run, &kernel, &contents)?;
-    Ok(Answer::printed(text))
+    Ok(Answer::printed(alloc, text))
 }
 
 /// What a command comes to.
@@ -145,6 +130,7 @@ fn answer_command<F: Files>(alloc: Global, files: &mut F, command: &Command) -> 
 {
     match command {
         Command::Run(run) => answer_run(alloc, files, run),
+        Command::Build { file, entry } => answer_build(alloc, files, file, entry),
         Command::Asm { file } => answer_asm(alloc, files, file),
         Command::Dis { file } => answer_dis(alloc, files, file),
     }

@@ -59,8 +59,8 @@ pub fn vx<R: Threads + Sync, F: Files, O: Out, G: Gate + Sync>(
         Ok(answer) => deliver_answer(out, answer),
         Err(Stop::Refused(cause)) => match Answer::refusal(alloc, cause) {
             Ok(answer) => deliver_answer(out, answer),
-            Err(Memory) => report(Cause::Memory, Activity),
+            Err(Memory) => report(Cause::Memory, Activity::idle(alloc)),
         },
-        Err(Stop::Memory) => report(Cause::Memory, Activity),
+        Err(Stop::Memory) => report(Cause::Memory, Activity::idle(alloc)),
     }
 }

@@ -1,5 +1,10 @@
-use vx_base::{Pos, Text};
+ghost use Rattle.std.specs.Prelude.{◌≡◌, [], ◌∷◌, IfOk};
+ghost use Rattle.vx_run.specs.Answers.{idle, made};
+
+use std::alloc::{AllocError, Global};
+use vx_base::{ListOf, Pos, Text};
 use vx_cc::SourceKind;
+use vx_isa::Image;
 use vx_words::UsageKind;
 
 /// Why a launch is refused.
@@ -113,9 +118,39 @@ pub enum Cause {
     },
 }
 
-/// What ran on the machine in a call. The kernels that run so far do not run on it, so there is nothing to tell yet.
-#[derive(Clone, Copy, Debug, PartialEq, Eq)]
-pub struct Activity;
+/// Images in order.
+pub type ImageList = ListOf<Image>;
+
+/// What was made and what ran in a call. The kernels that run so far do not run on the machine, so there are only images to tell of.
+#[derive(Debug, Drop)]
+pub struct Activity {
+    /// The images that were made.
+    pub images: ImageList,
+}
+
+impl Activity {
+    /// Nothing was made, and nothing ran.
+    pub fn idle(alloc: Global) -> Activity
+        ensures { result ≡ idle }
+    {
+        Activity {
+            images: ListOf {
+                items: Vec::new(alloc),
+            },
+        }
+    }
+
+    /// One image was made, and nothing ran.
+    pub fn made(alloc: Global, image: Image) -> Result<Activity, AllocError>
+        ensures { IfOk result (λ activity. activity ≡ made image) }
+    {
+        let mut items = Vec::new(alloc);
+        items.push(image)?;
+        Ok(Activity {
+            images: ListOf { items },
+        })
+    }
+}
 
 /// What a call of the program answers.
 #[derive(Debug, Drop)]
@@ -124,6 +159,6 @@ pub struct Report {
     pub status: u8,
     /// Why it ends so.
     pub cause: Cause,
-    /// What ran.
+    /// What was made, and what ran.
     pub activity: Activity,
 }

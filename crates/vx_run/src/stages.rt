@@ -2,37 +2,51 @@
 
 ghost use Rattle.std.specs.Prelude.{◌≡◌, IfOk};
 ghost use Rattle.vx_cc.specs.Faults.{first_place};
-ghost use Rattle.vx_run.specs.Answers.{printed, refusal};
+ghost use Rattle.vx_run.specs.Answers.{built, printed, refusal};
 
 use crate::lines::cause_line;
-use crate::report::{Activity, Cause};
-use asm_text::{AsmFault, HexFault};
+use crate::report::{Activity, Cause, LaunchKind};
+use asm_text::{AsmFault, HexFault, hex_text};
+use kernel_images::CompileFault;
 use std::alloc::{AllocFailed, Global};
 use vx_base::{Memory, Pos, Text};
 use vx_cc::{SourceFault, SourceKind};
+use vx_isa::Image;
 use vx_words::UsageFault;
 
-/// What a call answers: why it ends, the text that it writes, and what ran.
+/// What a call answers: why it ends, the text that it writes, and what was made and ran.
 #[derive(Debug, Drop)]
 pub struct Answer {
     /// Why the call ends.
     pub cause: Cause,
     /// The text that it writes.
     pub text: Text,
-    /// What ran.
+    /// What was made, and what ran.
     pub activity: Activity,
 }
 
 impl Answer {
     /// The answer of a call that prints a text.
-    pub fn printed(text: Text) -> Answer
+    pub fn printed(alloc: Global, text: Text) -> Answer
         ensures { result ≡ printed text }
     {
         Answer {
             cause: Cause::Done,
             text,
-            activity: Activity,
+            activity: Activity::idle(alloc),
         }
+    }
+
+    /// The answer of a call that makes an image: the words of the image, in lines.
+    pub fn built(alloc: Global, image: Image) -> Result<Answer, Memory>
+        ensures { IfOk result (λ answer. answer ≡ built image) }
+    {
+        let text = hex_text(alloc, image.words.as_slice())?;
+        Ok(Answer {
+            cause: Cause::Done,
+            text,
+            activity: Activity::made(alloc, image)?,
+        })
     }
 
     /// The answer of a call that is refused: the line that names the cause.
@@ -43,7 +57,7 @@ impl Answer {
         Ok(Answer {
             cause,
             text,
-            activity: Activity,
+            activity: Activity::idle(alloc),
         })
     }
 }
@@ -117,6 +131,24 @@ impl From<SourceFault> for Stop {
         match fault.kind {
             SourceKind::Memory => Stop::Memory,
             kind => Stop::source(fault.pos, kind),
+        }
+    }
+}
+
+impl From<CompileFault> for Stop {
+    ghost use Rattle.vx_run.specs.Stages.{StopsForImage};
+
+    ghost from_gives = { StopsForImage };
+
+    fn from(fault: CompileFault) -> Stop {
+        match fault {
+            CompileFault::NoEntry => Stop::Refused(Cause::Launch {
+                index: 0,
+                kind: LaunchKind::NoEntry,
+            }),
+            CompileFault::Slots { pos, slots } => Stop::source(pos, SourceKind::Slots { slots }),
+            CompileFault::Words { pos, words } => Stop::source(pos, SourceKind::Words { words }),
+            CompileFault::Memory => Stop::Memory,
         }
     }
 }

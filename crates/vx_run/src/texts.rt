@@ -30,7 +30,7 @@ fn lines_of_assembly(alloc: Global, text: &[u8]) -> Result<Answer, Stop>
         return Err(Stop::too_long());
     }
     let words = assemble(alloc, text)?;
-    Ok(Answer::printed(hex_text(alloc, words.as_slice())?))
+    Ok(Answer::printed(alloc, hex_text(alloc, words.as_slice())?))
 }
 
 // The assembly text of a text of words.
@@ -42,7 +42,7 @@ fn assembly_of_lines(alloc: Global, text: &[u8]) -> Result<Answer, Stop>
         return Err(Stop::too_long());
     }
     let words = hex_words(alloc, text)?;
-    Ok(Answer::printed(disassemble(alloc, words.as_slice())?))
+    Ok(Answer::printed(alloc, disassemble(alloc, words.as_slice())?))
 }
 
 /// What `asm` comes to: the words of the file's assembly text, in lines.

@@ -4,9 +4,10 @@ ghost use Rattle.std.specs.String.{string_bytes};
 ghost use Rattle.vx_words.specs.declared.command.Command.{Command};
 ghost use Rattle.vx_words.specs.declared.usage.UsageKind.{UsageKind};
 ghost use Rattle.vx_words.specs.Commands.{GivesFile, IsCommand, IsUsage, Reads};
+ghost use Rattle.std.specs.Prelude.{codes};
 
 use crate::form::read_form;
-use crate::further::text_of;
+use crate::further::{is_name, text_of};
 use crate::run_words::RunWords;
 use crate::usage::{UsageFault, UsageKind};
 use std::alloc::Global;
@@ -17,6 +18,13 @@ use vx_base::Text;
 pub enum Command {
     /// `run`: launch a kernel, and print buffers.
     Run(RunWords),
+    /// `build FILE ENTRY`: print the words of a compiled kernel.
+    Build {
+        /// The file of the kernel.
+        file: Text,
+        /// The kernel's name.
+        entry: Text,
+    },
     /// `asm FILE`: print the words of an assembly text.
     Asm {
         /// The file of the text.
@@ -41,9 +49,27 @@ const NO_FILE: UsageFault = UsageFault::Usage {
     kind: UsageKind::Missing,
 };
 
-/// The fault of a word behind the last that a command may have.
+/// The fault of a word behind the file of a command of one file.
 const FURTHER_WORD: UsageFault = UsageFault::Usage {
     word: 2,
+    kind: UsageKind::Form,
+};
+
+/// The fault of `build` without its entry.
+const NO_ENTRY: UsageFault = UsageFault::Usage {
+    word: 2,
+    kind: UsageKind::Missing,
+};
+
+/// The fault of an entry that is no name.
+const BAD_ENTRY: UsageFault = UsageFault::Usage {
+    word: 2,
+    kind: UsageKind::Form,
+};
+
+/// The fault of a word behind the entry of `build`.
+const BEHIND_ENTRY: UsageFault = UsageFault::Usage {
+    word: 3,
     kind: UsageKind::Form,
 };
 
@@ -58,12 +84,36 @@ fn only_file(alloc: Global, behind: &[String]) -> Result<Text, UsageFault>
     }
 }
 
+/// The words behind `build`: a file, and the name of a kernel.
+fn read_build(alloc: Global, behind: &[String]) -> Result<Command, UsageFault>
+    ensures { Reads (codes "build" ∷ map string_bytes behind.now) result }
+{
+    let Some((file, behind_file)) = behind.split_first() else {
+        return Err(NO_FILE);
+    };
+    let Some((entry, more)) = behind_file.split_first() else {
+        return Err(NO_ENTRY);
+    };
+    if !is_name(entry.as_bytes()) {
+        return Err(BAD_ENTRY);
+    }
+    if !more.is_empty() {
+        return Err(BEHIND_ENTRY);
+    }
+    let file = text_of(alloc, file.as_str())?;
+    let entry = text_of(alloc, entry.as_str())?;
+    Ok(Command::Build { file, entry })
+}
+
 /// The command of this name with these words behind it.
 fn read_command(alloc: Global, name: &str, behind: &[String]) -> Result<Command, UsageFault>
     ensures { Reads (name.now ∷ map string_bytes behind.now) result }
 {
     if name == "run" {
         return Ok(Command::Run(read_form(alloc, behind)?));
+    }
+    if name == "build" {
+        return read_build(alloc, behind);
     }
     if name == "asm" {
         return Ok(Command::Asm {
@@ -90,7 +140,8 @@ fn command_of(alloc: Global, words: &[String]) -> Result<Command, UsageFault>
 
 /// What the words of the command line ask for.
 ///
-/// The first word is `run`, `asm` or `dis`. Behind `asm` and `dis` stands one file. Behind `run` stand the file and then,
+/// The first word is `run`, `build`, `asm` or `dis`. Behind `asm` and `dis` stands one file, and behind `build` a file and the name of a
+/// kernel. Behind `run` stand the file and then,
 /// in any order, at most 16 words `buf=NAME:int:in:PATH` or `buf=NAME:int:zero:COUNT`, one `do=ENTRY/N/N` or
 /// `do=ENTRY/N/N/ARG,ARG..`, and at most 16 `show=NAME`; where they have another form, the number of the word in the fault
 /// is 0.

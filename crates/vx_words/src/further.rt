@@ -80,7 +80,7 @@ fn is_name_byte(byte: u8) -> bool
 }
 
 /// Whether a text is a name: a letter or `_`, and then letters, digits and `_`.
-fn is_name(text: &[u8]) -> bool
+pub fn is_name(text: &[u8]) -> bool
     ensures { result ≡ Names.is_name text.now }
 {
     match text {

@@ -1,7 +1,7 @@
 use Rattle.std.proofs.Common.{[], subst}
 use Rattle.std.proofs.lemmas.Result.{err_from_is_err_and}
 use Rattle.first_kernels.specs.FirstTree.{form_of}
-use Rattle.vx_run.specs.Answers.{FromArguments, FromBuffers, FromFile, Prints}
+use Rattle.vx_run.specs.Answers.{FromArguments, FromBuffers, FromProgram, FromRun, Prints}
 use Rattle.vx_run.specs.Stages.{IsNoKernelOf, SourceHasKernel, StopsAt}
 use Rattle.vx_run.proofs.AnswerLaws.{buffers_come, chosen_of, source_stops, unread_file}
 use Rattle.vx_run.proofs.LoadingLaws.{StopsAt-map}
@@ -10,7 +10,7 @@ use Rattle.vx_run.proofs.answer.answer_run.Goals as goal
 pub returns-in_err-source-clause-comes : goal.returns-in_err-source-clause-comes
 returns-in_err-source-clause-comes g c =
     let p = err_from_is_err_and c.from_residual.result c.from_residual.ensures.1 in
-    rw (p.1, p.2) (unread_file (g.F.Files.held c.args.files.now) c.args.run.now _ c.in_err-source.ensures.stop)
+    rw (p.1, p.2) (unread_file (g.F.Files.held c.args.files.now) c.args.run.now.file (FromProgram (g.F.Files.held c.args.files.now) c.args.run.now) _ c.in_err-source.ensures.stop)
 
 pub returns-in_err-kernel-clause-comes : goal.returns-in_err-kernel-clause-comes
 returns-in_err-kernel-clause-comes g c =
@@ -31,7 +31,7 @@ returns-in_err-contents-clause-comes g c =
     let has : SourceHasKernel source run.entry form = subst (λ x. SourceHasKernel source x form) c.as_slice.ensures found in
     let k = chosen_of source run.entry form has in
     let p = err_from_is_err_and c.from_residual-in_err-contents.result c.from_residual-in_err-contents.ensures.1 in
-    rw (p.1, p.2) (StopsAt-map (FromBuffers held run k 0 run.buffers []) (FromFile held run) (buffers_come held run source form c.in_ok-source.ensures.front has) s
+    rw (p.1, p.2) (StopsAt-map (FromBuffers held run k 0 run.buffers []) (FromRun held run) (buffers_come held run source form c.in_ok-source.ensures.front has) s
     (subst (λ h. StopsAt (FromBuffers h run k 0 run.buffers []) s) c.in_ok-source.ensures.held (c.in_err-contents.ensures.stop k)))
 
 pub returns-in_err-text-clause-comes : goal.returns-in_err-text-clause-comes
@@ -46,7 +46,7 @@ returns-in_err-text-clause-comes g c =
     let has : SourceHasKernel source run.entry form = subst (λ x. SourceHasKernel source x form) c.as_slice.ensures found in
     let k = chosen_of source run.entry form has in
     let p = err_from_is_err_and c.from_residual-in_err-text.result c.from_residual-in_err-text.ensures.1 in
-    rw (p.1, p.2) (StopsAt-map (FromArguments run k contents) (FromFile held run)
+    rw (p.1, p.2) (StopsAt-map (FromArguments run k contents) (FromRun held run)
     (λ o h. buffers_come held run source form c.in_ok-source.ensures.front has o
     (subst (λ x. FromBuffers x run k 0 run.buffers [] o) c.in_ok-source.ensures.held (c.in_ok-contents.ensures.loaded k o h))) s
     (subst (λ x. StopsAt (FromArguments run k x) s) c.deref-2.ensures.value (c.in_err-text.ensures.stop k has.has.formed)))
