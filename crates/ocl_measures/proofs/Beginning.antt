@@ -66,13 +66,13 @@ past_totals program totals n k past rows = record {
 }
 
 -- a function of which nothing is known is done only where there is none
-done_past : (program : List FunctionNode) (k : ℕ) → mark_at (replicate (length program) Unseen) k ≡ Done → length program ≤ k
+pub done_past : (program : List FunctionNode) (k : ℕ) → mark_at (replicate (length program) Unseen) k ≡ Done → length program ≤ k
 done_past program k is = elim (le_or_lt (length program) k) [
   | inl past ↦ past
   | inr below ↦ absurd (not_unseen_done (mark_at (replicate (length program) Unseen) k) (ap (λ found. unwrap_or found Done) (replicated (length program) Unseen k below)) is)
 ]
 
-not_open : (n k : ℕ) → mark_at (replicate n Unseen) k ≡ Open → ⊥
+pub not_open : (n k : ℕ) → mark_at (replicate n Unseen) k ≡ Open → ⊥
 not_open n k is = elim (le_or_lt n k) [
   | inl past ↦
       let all : length (replicate n Unseen) ≡ n = many_replicated n Unseen in
@@ -125,7 +125,7 @@ search_begins program marks totals path todo t n count none nothing empty number
 
 -- ---- behind the last
 
-all_done : (m : Mark) → (m ≡ Unseen → ⊥) → (m ≡ Open → ⊥) → m ≡ Done
+pub all_done : (m : Mark) → (m ≡ Unseen → ⊥) → (m ≡ Open → ⊥) → m ≡ Done
 all_done Unseen a b = absurd (a refl)
 all_done Open a b = absurd (b refl)
 all_done Done a b = refl

@@ -1,7 +1,11 @@
 pub mod Alike
 pub mod Beginning
+pub mod Closing
+pub mod Cycling
+pub mod Ending
 pub mod Lookups
 pub mod Meeting
+pub mod Opening
 pub mod Owning
 pub mod Reaching
 pub mod Searching

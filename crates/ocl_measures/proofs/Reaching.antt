@@ -82,6 +82,10 @@ closed_leads program P closed to (suc n) from here e =
       | inr there ↦ closed_leads program P closed to n m.callee next there
     ]
 
+-- what is reached by what a function reaches
+pub reaches_through : (program : List FunctionNode) (a b c : ℕ) → Reaches program a b → Reaches program b c → Reaches program a c
+reaches_through program a b c r h = closed_leads program (λ x. Reaches program a x) (λ k to x calls. reaches_on program a k x to calls) c h.0 b r h.1
+
 leads_itself : (program : List FunctionNode) (P : ℕ → Type 0) → ((k : ℕ) → P k → (c : ℕ) → Calls program k c → P c) → (k : ℕ) → ((c : ℕ) → Calls program k c → P c) → (P k → ⊥)
     → (n : ℕ) → leads program k n k ≡ true → ⊥
 unfolding leads

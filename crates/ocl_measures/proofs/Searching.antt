@@ -142,7 +142,7 @@ done_stays marks k below c done = elim (equal_or_not c k) [
 ]
 
 -- a function that is not k has the mark that it had
-was : (marks : List Mark) (k : ℕ) (m : Mark) → k < length marks → (j : ℕ) (n : Mark) → (m ≡ n → ⊥) → mark_at (set marks k m) j ≡ n → (j ≡ k → ⊥)
+pub was : (marks : List Mark) (k : ℕ) (m : Mark) → k < length marks → (j : ℕ) (n : Mark) → (m ≡ n → ⊥) → mark_at (set marks k m) j ≡ n → (j ≡ k → ⊥)
 was marks k m below j n differ is same = differ (sym (set_here marks k m below) ∙ ap (mark_at (set marks k m)) (sym same) ∙ is)
 
 measured_now : (program : List FunctionNode) (marks : List Mark) (totals : List Totals) (k : ℕ) (f : FunctionNode) → AreKnown program marks totals → slice_get program k ≡ Some f

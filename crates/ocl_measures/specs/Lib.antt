@@ -1,4 +1,5 @@
 pub mod Answers
+pub mod Cycles
 pub mod Recursion
 pub mod Search
 pub mod Sizes

@@ -4,6 +4,7 @@
 //! functions of a program with callees before their callers, or finds the first function that reaches a call of itself.
 #![tactic(auto)]
 
+pub mod cycles;
 pub mod recursion;
 pub mod search;
 pub mod sizes;

@@ -56,21 +56,3 @@ pub fn is_recursive(
     }
     Ok(false)
 }
-
-/// The first function that reaches a call of itself, where this one does.
-#[tactic(auto, using(crate::proofs::Meeting::none_yet, crate::proofs::Meeting::one_not, crate::proofs::Meeting::first_here, crate::proofs::Meeting::first_found))]
-pub fn first_recursive(
-    alloc: Global,
-    functions: &[TypedFunction],
-    found: u32,
-) -> Result<u32, AllocError>
-    requires { IsRecursive (map function_node functions.now) found }
-    ensures { IfOk result (λ first. IsFirstRecursive (map function_node functions.now) first) }
-{
-    for number in 0..found {
-        if is_recursive(alloc, functions, number)? {
-            return Ok(number);
-        }
-    }
-    Ok(found)
-}

@@ -7,7 +7,7 @@ ghost use Rattle.ocl_measures.specs.Search.{HasFrom, IsIdle, IsNext, is_unseen, 
 ghost use Rattle.ocl_measures.specs.Totals.{own_totals as own_totals_of};
 ghost use Rattle.ocl_measures.specs.declared.search.Mark.TheVariants as mark;
 
-use crate::recursion::first_recursive;
+use crate::cycles::first_recursive;
 use crate::sizes::Totals;
 use crate::totals::{NO_TOTALS, own_totals};
 use ocl_program::{CallSite, TypedFunction};
@@ -67,7 +67,7 @@ pub enum AllTotals {
 }
 
 /// How far the search has come with a function.
-fn mark_of(marks: &[Mark], function: u32) -> Mark
+pub(crate) fn mark_of(marks: &[Mark], function: u32) -> Mark
     ensures { result ≡ mark_at marks.now function }
 {
     match marks.get(function as usize) {
@@ -181,7 +181,7 @@ fn open(search: &mut Search, functions: &[TypedFunction], function: u32) -> Resu
 
 /// The numbers below a count, the least at the end.
 #[tactic(auto, using(crate::proofs::Beginning::no_numbers, crate::proofs::Beginning::all_numbers))]
-fn numbers_below(alloc: Global, count: u32) -> Result<Vec<u32>, AllocError>
+pub(crate) fn numbers_below(alloc: Global, count: u32) -> Result<Vec<u32>, AllocError>
     ensures { IfOk result (λ numbers. HasFrom 0 count numbers.items) }
 {
     let mut numbers = Vec::new(alloc);
