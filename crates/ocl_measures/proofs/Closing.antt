@@ -11,12 +11,12 @@ use Rattle.ocl_measures.proofs.Stacks.{behind, equal_or_not, front, only, parted
 
 -- that some are taken away, down to a place or above it
 pub record IsClosing (marks : List Mark) (members : List ℕ) (start : ℕ) (marks' : List Mark) (members' : List ℕ) : Type 0 where
-  pub left : start ≤ length members'
+  pub above : start ≤ length members'
   pub closed : IsClosed marks members (length members') marks' members'
 
 pub none_closed : (marks : List Mark) (members : List ℕ) (start : ℕ) → start ≤ length members → IsClosing marks members start marks members
 none_closed marks members start below = record {
-  left = below;
+  above = below;
   closed = record {
     many = refl;
     count = refl;
@@ -56,11 +56,11 @@ one_done marks members marks' left x c below =
 
 pub one_closed : (marks : List Mark) (members : List ℕ) (start : ℕ) (marks' marks'' : List Mark) (members' left : List ℕ) (x : ℕ) → IsClosing marks members start marks' members'
     → start < length members' → members' ≡ left ++ x ∷ [] → x < length marks' → marks'' ≡ set marks' x Done → IsClosing marks members start marks'' left
-one_closed marks members start marks' marks'' members' left x s above is below new =
+one_closed marks members start marks' marks'' members' left x s more is below new =
     let long : length (left ++ x ∷ []) ≡ length left + 1 = length-append left (x ∷ []) in
     let was : length members' ≡ length (left ++ x ∷ []) = ap length is in
     record {
-      left = omega arith;
+      above = omega arith;
       closed = subst (λ ms. IsClosed marks members (length left) ms left) (sym new)
           (one_done marks members marks' left x (subst (λ l. IsClosed marks members (length l) marks' l) is s.closed) below);
     }
@@ -81,6 +81,6 @@ last_within marks members start marks' members' left x s is within =
 pub all_closed : (marks : List Mark) (members : List ℕ) (start : ℕ) (marks' : List Mark) (members' : List ℕ) → IsClosing marks members start marks' members' → length members' ≤ start
     → IsClosed marks members start marks' members'
 all_closed marks members start marks' members' s past =
-    let left = s.left in
+    let above = s.above in
     let same : length members' ≡ start = omega arith in
     subst (λ n. IsClosed marks members n marks' members') same s.closed

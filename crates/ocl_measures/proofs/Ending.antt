@@ -38,7 +38,7 @@ taken_or_same program marks marks' places members members' groups todo first sta
         | inl past ↦ inr (record { place = from.0; from = past; there = from.2; done = c.done from.0 k from.2 past })
         | inr lt ↦ inl (c.same k (λ p le e.
             let at : p ≡ from.0 = one_place program marks places members groups todo first s p from.0 k e from.2 in
-            absurd (omega arith)))
+            omega arith))
       ]
   | inr not ↦ inl (c.same k (λ p le e. not (s.opened p k e)))
 ]
@@ -71,7 +71,7 @@ group_never : (program : List FunctionNode) (marks : List Mark) (places members 
     → IsCycles program marks places members (groups' ++ b ∷ []) todo first → IsLookedAt (groups' ++ b ∷ []) todo → (p k : ℕ) → b.start ≤ p → slice_get members p ≡ Some k
     → k < first → (n : ℕ) → leads program k n k ≡ false
 group_never program marks places members groups' b todo first s idle p k le e lt n =
-    never_itself program (Finished marks members b.start first)
+    never_itself program (λ c. Finished marks members b.start first c)
     (λ j is c calls. elim is [
       | inl done ↦ inl (s.closed j done c calls)
       | inr h ↦ group_calls program marks places members groups' b todo first s idle h.0 j h.1 h.2 c calls
@@ -185,13 +185,16 @@ same_unseen (x ∷ xs) [] long was = absurd (omega arith)
 same_unseen (x ∷ xs) (Unseen ∷ ys) long was =
     let rest : marked_so is_unseen ys ≤ marked_so is_unseen xs = same_unseen xs ys (omega arith) (λ k. was (suc k)) in
     let is : x ≡ Unseen = was 0 refl in
+    let now : marked_so is_unseen (Unseen ∷ ys) ≡ 1 + marked_so is_unseen ys = refl in
     let one : marked_so is_unseen (x ∷ xs) ≡ 1 + marked_so is_unseen xs = ap (λ m. marked_so is_unseen (m ∷ xs)) is in
     omega arith
 same_unseen (x ∷ xs) (Open ∷ ys) long was =
     let rest : marked_so is_unseen ys ≤ marked_so is_unseen xs = same_unseen xs ys (omega arith) (λ k. was (suc k)) in
+    let now : marked_so is_unseen (Open ∷ ys) ≡ 0 + marked_so is_unseen ys = refl in
     omega arith
 same_unseen (x ∷ xs) (Done ∷ ys) long was =
     let rest : marked_so is_unseen ys ≤ marked_so is_unseen xs = same_unseen xs ys (omega arith) (λ k. was (suc k)) in
+    let now : marked_so is_unseen (Done ∷ ys) ≡ 0 + marked_so is_unseen ys = refl in
     omega arith
 
 pub closed_unseen : (program : List FunctionNode) (marks marks' : List Mark) (places members members' : List ℕ) (groups : List Group) (todo : List ℕ) (first start : ℕ)

@@ -4,7 +4,6 @@ pub mod Closing
 pub mod Cycling
 pub mod Ending
 pub mod Lookups
-pub mod Meeting
 pub mod Opening
 pub mod Owning
 pub mod Reaching

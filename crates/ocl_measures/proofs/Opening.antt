@@ -18,11 +18,11 @@ use Rattle.ocl_measures.proofs.Stacks.{behind, equal_or_not, front, get_else, ge
 
 -- ---- a function that is met
 
-opened : (program : List FunctionNode) (marks : List Mark) (places members : List ℕ) (groups : List Group) (b : Group) (todo : List ℕ) (first k : ℕ) (f : FunctionNode)
+met_one : (program : List FunctionNode) (marks : List Mark) (places members : List ℕ) (groups : List Group) (b : Group) (todo : List ℕ) (first k : ℕ) (f : FunctionNode)
     → IsCycles program marks places members groups todo first → IsNextCall groups todo k → mark_at marks k ≡ Unseen → slice_get program k ≡ Some f
     → b.start ≡ length members → b.floor ≡ length todo
     → IsCycles program (set marks k Open) (set places k (length members)) (members ++ k ∷ []) (groups ++ b ∷ []) (todo ++ callees f) first
-opened program marks places members groups b todo first k f s next unseen there start floor =
+met_one program marks places members groups b todo first k f s next unseen there start floor =
     let longer : length (todo ++ callees f) ≡ length todo + length (callees f) = length-append todo (callees f) in
     let long : length (members ++ k ∷ []) ≡ length members + 1 = length-append members (k ∷ []) in
     let below : k < length marks = in_marks marks k (not_unseen_done (mark_at marks k) unseen) in
@@ -146,15 +146,15 @@ opened program marks places members groups b todo first k f s next unseen there 
 
 pub function_open : (program : List FunctionNode) (marks marks' : List Mark) (places places' members members' : List ℕ) (groups groups' : List Group) (b : Group) (todo todo' : List ℕ) (first k : ℕ) (f : FunctionNode)
     → IsCycles program marks places members groups todo first → IsNextCall groups todo k → mark_at marks k ≡ Unseen → slice_get program k ≡ Some f
-    → b.start ≡ length members → b.floor ≡ length todo → marks' ≡ set marks k Open → places' ≡ set places k (length members) → members' ≡ members ++ k ∷ []
+    → b.start ≡ length members → b.floor ≡ length todo → marks' ≡ set marks k Open → places' ≡ set places k b.start → members' ≡ members ++ k ∷ []
     → groups' ≡ groups ++ b ∷ [] → todo' ≡ todo ++ callees f → IsCycles program marks' places' members' groups' todo' first
 function_open program marks marks' places places' members members' groups groups' b todo todo' first k f s next unseen there start floor new_marks new_places new_members new_groups new_todo =
     subst (λ ms. IsCycles program ms places' members' groups' todo' first) (sym new_marks)
-    (subst (λ ps. IsCycles program (set marks k Open) ps members' groups' todo' first) (sym new_places)
+    (subst (λ ps. IsCycles program (set marks k Open) ps members' groups' todo' first) (sym (new_places ∙ ap (λ n. set places k n) start))
     (subst (λ l. IsCycles program (set marks k Open) (set places k (length members)) l groups' todo' first) (sym new_members)
     (subst (λ gs. IsCycles program (set marks k Open) (set places k (length members)) (members ++ k ∷ []) gs todo' first) (sym new_groups)
     (subst (λ l. IsCycles program (set marks k Open) (set places k (length members)) (members ++ k ∷ []) (groups ++ b ∷ []) l first) (sym new_todo)
-    (opened program marks places members groups b todo first k f s next unseen there start floor)))))
+    (met_one program marks places members groups b todo first k f s next unseen there start floor)))))
 
 -- ---- before the first function
 

@@ -94,23 +94,3 @@ pub record IsNext (path : List Frame) (todo : List ℕ) (c : ℕ) : Type 0 where
 pub record IsIdle (path : List Frame) (todo : List ℕ) : Type 0 where
   pub none : length path ≡ 0 → length todo ≡ 0
   pub below : (j : ℕ) (a : Frame) → slice_get path j ≡ Some a → suc j ≡ length path → length todo ≤ a.floor
-
--- whether a function has been met by a search for one that calls itself; where there is none, nothing is left to do
-abbrev pub met_at : List Bool → ℕ → Bool
-met_at met k = unwrap_or (slice_get met k) true
-
--- What a search from function k keeps: it has not met k, it reaches all that is to be looked at, and that has the callees of k and of
--- all that it has met, but for those that are met.
-pub record IsReached (program : List FunctionNode) (k : ℕ) (met : List Bool) (todo : List ℕ) : Type 0 where
-  pub many : length met ≡ length program
-  pub apart : k < length program → met_at met k ≡ false
-  pub reached : (c : ℕ) → From 0 todo c → Reaches program k c
-  pub first : (c : ℕ) → Calls program k c → (met_at met c ≡ true) ⊎ From 0 todo c
-  pub closed : (j : ℕ) → met_at met j ≡ true → (c : ℕ) → Calls program j c → (met_at met c ≡ true) ⊎ From 0 todo c
-
--- that a function is taken from the end of a stack, and those behind it have been met
-pub record IsTaken (met : List Bool) (todo left : List ℕ) (c : ℕ) : Type 0 where
-  pub new : met_at met c ≡ false
-  pub there : From 0 todo c
-  pub fewer : (v : ℕ) → From 0 left v → From 0 todo v
-  pub others : (v : ℕ) → From 0 todo v → (met_at met v ≡ true) ⊎ ((v ≡ c) ⊎ From 0 left v)

@@ -5,7 +5,6 @@
 #![tactic(auto)]
 
 pub mod cycles;
-pub mod recursion;
 pub mod search;
 pub mod sizes;
 pub mod totals;
