@@ -1,5 +1,5 @@
 -- What a search for the first function that reaches itself keeps, for the proof.
-use Rattle.std.specs.Prelude.{◌≡◌, ℕ, suc, ◌<◌, ◌≤◌, ◌+◌, ◌⊎◌, List, length, slice_get, Option, None, Some}
+use Rattle.std.specs.Prelude.{◌≡◌, ℕ, suc, ◌<◌, ◌≤◌, ◌+◌, ◌⊎◌, false, List, length, slice_get, Option, None, Some}
 use Rattle.ocl_program.specs.Nodes.{FunctionNode}
 use Rattle.ocl_measures.specs.Recursion.{IsRecursive, leads}
 use Rattle.ocl_measures.specs.Search.{Calls, From, Reaches, mark_at}
