@@ -1,18 +1,17 @@
 -- What a search for the first function that reaches itself keeps when a call is looked at, when a function is met, and when a group is
 -- closed.
-use Rattle.std.proofs.Common.{◌≡◌, refl, sym, ap, ◌∙◌, subst, ℕ, zero, suc, ◌+◌, ◌<◌, ◌≤◌, min, ◌⊎◌, inl, inr, List, [], ◌∷◌, ◌++◌, length, map, set, slice_get, Option, None, Some, option_to_list, replicate, arith}
-use Rattle.std.proofs.lemmas.List.{length-append, length-map, length-set}
+use Rattle.std.proofs.Common.{◌≡◌, refl, sym, ap, ◌∙◌, subst, ℕ, suc, ◌+◌, ◌<◌, ◌≤◌, min, ◌⊎◌, inl, inr, List, [], ◌∷◌, ◌++◌, length, slice_get, Option, None, Some, option_to_list, arith}
+use Rattle.std.proofs.lemmas.List.{length-append}
 use Rattle.std.proofs.lemmas.Option.{slice_get_within}
 use Rattle.ocl_program.specs.Nodes.{FunctionNode}
-use Rattle.ocl_program.specs.Measures.{callees}
-use Rattle.ocl_measures.specs.Cycles.{Belongs, HasGroup, IsClosed, IsCycles, IsInside, IsLookedAt, IsNextCall, IsSettled, IsWaiting, Joins}
-use Rattle.ocl_measures.specs.Recursion.{IsFirstRecursive, IsRecursive, is_recursive, leads}
-use Rattle.ocl_measures.specs.Search.{Calls, From, HasFrom, Reaches, callees_in, is_unseen, mark_at, marked_so}
+use Rattle.ocl_measures.specs.Cycles.{Belongs, HasGroup, IsCycles, IsNextCall, IsSettled, Joins}
+use Rattle.ocl_measures.specs.Recursion.{IsRecursive}
+use Rattle.ocl_measures.specs.Search.{From, Reaches, mark_at}
 use Rattle.ocl_measures.specs.declared.cycles.Group.{Group}
 use Rattle.ocl_measures.specs.declared.search.Mark.{Mark}
 use Rattle.ocl_measures.specs.declared.search.Mark.TheVariants.{Unseen, Open, Done}
-use Rattle.ocl_measures.proofs.Reaching.{le_or_lt, never_itself, reaches_first, reaches_on, reaches_through, reaches_within}
-use Rattle.ocl_measures.proofs.Stacks.{Last, behind, equal_or_not, front, get_else, get_here, in_marks, last_of, not_open_done, not_open_unseen, not_unseen_done, only, parted, same_found, set_else, set_here}
+use Rattle.ocl_measures.proofs.Reaching.{le_or_lt, reaches_through, reaches_within}
+use Rattle.ocl_measures.proofs.Stacks.{Last, behind, front, in_marks, last_of, not_open_done, not_open_unseen, not_unseen_done, only, parted, same_found}
 
 -- ---- the last group
 
@@ -176,6 +175,15 @@ cycle_met program marks places members groups todo first c s next is_open =
     let from : From 0 members c = s.met c is_open in
     let itself : Reaches program c c = s.reached from.0 c next.place c from.2 next.there (λ i g e le. floor_below program marks places members groups todo first c s next i g e) in
     record { within = omega arith; calls = reaches_within program c c itself }
+
+-- an open function has a place
+pub place_within : (program : List FunctionNode) (marks : List Mark) (places members : List ℕ) (groups : List Group) (todo : List ℕ) (first c : ℕ) → IsCycles program marks places members groups todo first
+    → mark_at marks c ≡ Open → c < length places
+place_within program marks places members groups todo first c s is_open =
+    let below : c < length marks = in_marks marks c (not_open_done (mark_at marks c) is_open) in
+    let many = s.many in
+    let rows = s.rows in
+    omega arith
 
 -- of an open function of the last group
 pub open_dropped : (program : List FunctionNode) (marks : List Mark) (places members : List ℕ) (groups : List Group) (todo todo' : List ℕ) (popped : Option ℕ) (first first' c q start : ℕ)

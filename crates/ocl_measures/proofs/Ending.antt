@@ -1,11 +1,11 @@
 -- What a search for the first function that reaches itself keeps when a group is closed, and what it has found at its end.
-use Rattle.std.proofs.Common.{◌≡◌, refl, sym, ap, ◌∙◌, subst, ℕ, zero, suc, ◌+◌, ◌<◌, ◌≤◌, false, ◌⊎◌, inl, inr, List, [], ◌∷◌, ◌++◌, length, slice_get, Some, arith}
+use Rattle.std.proofs.Common.{◌≡◌, refl, sym, ap, ◌∙◌, subst, ℕ, suc, ◌+◌, ◌<◌, ◌≤◌, false, ◌⊎◌, inl, inr, List, [], ◌∷◌, ◌++◌, length, slice_get, Some, arith}
 use Rattle.std.proofs.lemmas.List.{length-append}
 use Rattle.std.proofs.lemmas.Option.{slice_get_within}
 use Rattle.ocl_program.specs.Nodes.{FunctionNode}
-use Rattle.ocl_measures.specs.Cycles.{Belongs, HasGroup, IsClosed, IsCycles, IsInside, IsLookedAt, IsNextCall, IsSettled, IsWaiting, Joins}
-use Rattle.ocl_measures.specs.Recursion.{IsFirstRecursive, is_recursive, leads}
-use Rattle.ocl_measures.specs.Search.{Calls, From, is_done, is_unseen, mark_at, marked_so}
+use Rattle.ocl_measures.specs.Cycles.{HasGroup, IsClosed, IsCycles, IsLookedAt}
+use Rattle.ocl_measures.specs.Recursion.{IsFirstRecursive, leads}
+use Rattle.ocl_measures.specs.Search.{Calls, From, is_unseen, mark_at, marked_so}
 use Rattle.ocl_measures.specs.declared.cycles.Group.{Group}
 use Rattle.ocl_measures.specs.declared.search.Mark.{Mark}
 use Rattle.ocl_measures.specs.declared.search.Mark.TheVariants.{Unseen, Open, Done}

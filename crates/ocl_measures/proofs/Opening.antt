@@ -1,12 +1,12 @@
 -- What a search for the first function that reaches itself keeps when a function is met, and what it begins with.
-use Rattle.std.proofs.Common.{◌≡◌, refl, sym, ap, ◌∙◌, subst, ℕ, zero, suc, ◌+◌, ◌<◌, ◌≤◌, ◌⊎◌, inl, inr, List, [], ◌∷◌, ◌++◌, length, map, set, slice_get, replicate, Some, arith}
+use Rattle.std.proofs.Common.{◌≡◌, refl, sym, ap, ◌∙◌, subst, ℕ, ◌+◌, ◌<◌, ◌≤◌, inl, inr, List, [], ◌∷◌, ◌++◌, length, set, slice_get, replicate, Some, arith}
 use Rattle.std.proofs.lemmas.List.{length-append, length-set}
 use Rattle.std.proofs.lemmas.Option.{slice_get_within}
 use Rattle.ocl_program.specs.Nodes.{FunctionNode}
 use Rattle.ocl_program.specs.Measures.{callees}
-use Rattle.ocl_measures.specs.Cycles.{Belongs, HasGroup, IsCycles, IsInside, IsNextCall, IsSettled, IsWaiting, Joins}
+use Rattle.ocl_measures.specs.Cycles.{IsCycles, IsNextCall}
 use Rattle.ocl_measures.specs.Recursion.{IsRecursive}
-use Rattle.ocl_measures.specs.Search.{Calls, From, HasFrom, Reaches, callees_in, mark_at}
+use Rattle.ocl_measures.specs.Search.{Calls, HasFrom, Reaches, callees_in, mark_at}
 use Rattle.ocl_measures.specs.declared.cycles.Group.{Group}
 use Rattle.ocl_measures.specs.declared.search.Mark.{Mark}
 use Rattle.ocl_measures.specs.declared.search.Mark.TheVariants.{Unseen, Open, Done}
