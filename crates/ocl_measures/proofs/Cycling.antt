@@ -199,12 +199,12 @@ open_dropped program marks places members groups todo todo' popped first first' 
       | inr lt ↦ subst (IsRecursive program) (let same : c ≡ first' = omega arith in same) itself
     ] in
     let joins : (p : ℕ) → Joins groups p q = λ p i g e le.
-        let inside : i < length groups = slice_get_within groups i g e in
-        let end : Last groups = last_of groups (omega arith) in
-        let at = end.last in
-        let same : start ≡ end.item.start = at_start end.place end.item end.there at in
-        let low : g.start ≤ end.item.start = s.starts i end.place g end.item e end.there (omega arith) in
-        omega arith in
+    let inside : i < length groups = slice_get_within groups i g e in
+    let end : Last groups = last_of groups (omega arith) in
+    let at = end.last in
+    let same : start ≡ end.item.start = at_start end.place end.item end.there at in
+    let low : g.start ≤ end.item.start = s.starts i end.place g end.item e end.there (omega arith) in
+    omega arith in
     dropped program marks places members groups todo todo' popped first' c (lower program marks places members groups todo first first' s (omega arith) lowest) next
     (λ unseen. not_open_unseen (mark_at marks c) is_open unseen) (λ p a e. inr (record { place = q; there = there; joins = joins p; least = omega arith })) is
 
@@ -232,9 +232,9 @@ joined program marks places members groups' b todo first c q s next there before
       reached = λ p a t v e h belongs. elim (le_or_lt b.start p) [
         | inl past ↦
             let to_c : Reaches program a c = s.reached p a next.place c e next.there
-                (λ i g at le. floor_below program marks places members (groups' ++ b ∷ []) todo first c s next i g at) in
+            (λ i g at le. floor_below program marks places members (groups' ++ b ∷ []) todo first c s next i g at) in
             let from_c : Reaches program c v = s.reached q c t v there h
-                (belongs_more groups' b q t before (λ i g at le. belongs i g at (omega arith))) in
+            (belongs_more groups' b q t before (λ i g at le. belongs i g at (omega arith))) in
             reaches_through program a c v to_c from_c
         | inr lt ↦ s.reached p a t v e h (belongs_more groups' b p t lt belongs)
       ];

@@ -92,7 +92,7 @@ closes program marks marks' places members members' groups' b todo first s idle 
     let count = c.count in
     let up : (i : ℕ) (g : Group) → slice_get groups' i ≡ Some g → slice_get groups i ≡ Some g = λ i g e. front groups' (b ∷ []) i g e in
     let which : (k : ℕ) → (mark_at marks' k ≡ mark_at marks k) ⊎ IsTaken members b.start marks' k = λ k.
-        taken_or_same program marks marks' places members members' groups todo first b.start s c k in
+    taken_or_same program marks marks' places members members' groups todo first b.start s c k in
     let before : (p k : ℕ) → slice_get members' p ≡ Some k → p < b.start = λ p k e. let inside = slice_get_within members' p k e in omega arith in
     let still_done : (k : ℕ) → mark_at marks k ≡ Done → mark_at marks' k ≡ Done = λ k is. elim (which k) [
       | inl same ↦ same ∙ is
@@ -211,10 +211,10 @@ done_at_end : (program : List FunctionNode) (marks : List Mark) (places members 
 done_at_end program marks places members groups todo first s no_groups no_todo k lt = all_done (mark_at marks k)
     (λ is. let from = s.unseen k lt is in let inside = slice_get_within todo from.0 k from.2 in omega arith)
     (λ is.
-        let from = s.met k is in
-        let h : HasGroup groups from.0 = s.grouped from.0 k from.2 in
-        let inside = slice_get_within groups h.index h.group h.there in
-        omega arith)
+    let from = s.met k is in
+    let h : HasGroup groups from.0 = s.grouped from.0 k from.2 in
+    let inside = slice_get_within groups h.index h.group h.there in
+    omega arith)
 
 pub cycles_ended : (program : List FunctionNode) (marks : List Mark) (places members : List ℕ) (groups : List Group) (todo : List ℕ) (first : ℕ) → IsCycles program marks places members groups todo first
     → length groups ≡ 0 → length todo ≡ 0 → IsFirstRecursive program first

@@ -30,12 +30,12 @@ met_one program marks places members groups b todo first k f s next unseen there
     let rows = s.rows in
     let old : (p a : ℕ) → slice_get members p ≡ Some a → p < b.start = λ p a e. let inside = slice_get_within members p a e in omega arith in
     let not_k : (p a : ℕ) → slice_get members p ≡ Some a → a ≡ k → ⊥ = λ p a e same.
-        not_open_unseen (mark_at marks k) (subst (λ x. mark_at marks x ≡ Open) same (s.opened p a e)) unseen in
+    not_open_unseen (mark_at marks k) (subst (λ x. mark_at marks x ≡ Open) same (s.opened p a e)) unseen in
     let called : (i c : ℕ) → slice_get (callees f) i ≡ Some c → Calls program k c = λ i c e. (i, ap (λ found. slice_get (callees_in found) i) there ∙ e) in
     let still_done : (c : ℕ) → mark_at marks c ≡ Done → mark_at (set marks k Open) c ≡ Done = λ c is.
-        set_else marks k c Open (λ same. not_unseen_done (mark_at marks k) unseen (subst (λ x. mark_at marks x ≡ Done) same is)) ∙ is in
+    set_else marks k c Open (λ same. not_unseen_done (mark_at marks k) unseen (subst (λ x. mark_at marks x ≡ Done) same is)) ∙ is in
     let was_done : (c : ℕ) → mark_at (set marks k Open) c ≡ Done → mark_at marks c ≡ Done = λ c is.
-        sym (set_else marks k c Open (was marks k Open below c Done (λ e. not_open_done Open refl e) is)) ∙ is in
+    sym (set_else marks k c Open (was marks k Open below c Done (λ e. not_open_done Open refl e) is)) ∙ is in
     record {
       many = length-set marks k Open ∙ s.many;
       rows = length-set places k (length members) ∙ s.rows;
@@ -104,7 +104,7 @@ met_one program marks places members groups b todo first k f s next unseen there
           | inl here' ↦ s.reached p a t c here here' (λ i g at le. belongs i g (front groups (b ∷ []) i g at) le)
           | inr later' ↦
               let to_k : Reaches program a k = s.reached p a next.place k here next.there
-                  (λ i g at le. floor_below program marks places members groups todo first k s next i g at) in
+              (λ i g at le. floor_below program marks places members groups todo first k s next i g at) in
               reaches_on program a k c to_k (called later'.place c later'.there)
         ]
         | inr later ↦
