@@ -1,1 +1,3 @@
-pub mod Words
+pub mod Sets
+pub mod Going
+pub mod Quiet

@@ -55,11 +55,11 @@ makes_base op based = based
 abbrev pub known_behind : VOp → Known → Known
 known_behind op k = record { written = wrote op k.written; based = makes_base op k.based }
 
--- The registers of the code, as far as they were written, are words of the frame, and the base registers have the addresses of the launch block
--- and of the frame.
+-- The registers of the code, as far as they were written, are in the frame, a word each; and the base registers have the addresses of the launch
+-- block and of the frame.
 pub record Same (g : Ground) (l : ℕ) (k : Known) (rs : ℕ → ℕ) (h : Held) : Type 0 where
   pub kept : (r : ℕ) → r < g.slots → k.written r ≡ true → h.frame r ≡ rs r
-  pub words : (r : ℕ) → r < g.slots → k.written r ≡ true → rs r < 2 ^ 32
+  pub words : (r : ℕ) → h.frame r < 2 ^ 32
   pub block : k.based ≡ true → h.registers block_base ≡ block_start
   pub frame : k.based ≡ true → h.registers frame_base ≡ frame_start g l
 
