@@ -1,3 +1,9 @@
 pub mod Sets
 pub mod Going
 pub mod Quiet
+pub mod Computed
+pub mod Values
+pub mod Reached
+pub mod Made
+pub mod Leading
+pub mod Stepping
