@@ -7,3 +7,4 @@ pub mod Reached
 pub mod Made
 pub mod Leading
 pub mod Stepping
+pub mod Inside

@@ -89,91 +89,127 @@ is_right at block frame effect.Warp = tt
 
 -- ---- the step
 
-module _ (g : Ground) (ops : List VOp) (laid : Laid g) (within : AreWithin g.slots ops) (near : words ops ≤ 65536)
-    (w : VWarp) (some : (l : ℕ) × ((l < 32) × (has_lane w.mask l ≡ true))) (small : w.mask < 2 ^ 32)
-    (xs : ℕ → Registers) (frames : ℕ → ℕ → ℕ) (answers : ℕ → ℕ) (k : ℕ) (i : Instr) (rest : List Instr)
-    (there : drop k (instrs_of g.slots ops) ≡ i ∷ rest) (lanes : IsLanes i) (choice target : ℕ) where
-  image = image_warp ops k w xs
-  after = image_step g ops answers k w xs
-  pc = address_of_word k
+-- A warp at the words, and how reads are answered to it.
+pub record Scene : Type 0 where
+  pub g : Ground
+  pub ops : List VOp
+  pub laid : Laid g
+  pub within : AreWithin g.slots ops
+  pub near : words ops ≤ 65536
+  pub w : VWarp
+  pub some : (l : ℕ) × ((l < 32) × (has_lane w.mask l ≡ true))
+  pub small : w.mask < 2 ^ 32
+  pub xs : ℕ → Registers
+  pub frames : ℕ → ℕ → ℕ
+  pub answers : ℕ → ℕ
 
-  -- what it is to a lane, and that its reads have such answers
-  pub effect_to : ℕ → LaneEffect
-  effect_to l = effect_at i pc (xs l)
+-- a word of its code that each lane does by itself
+pub record Word (c : Scene) : Type 0 where
+  pub k : ℕ
+  pub i : Instr
+  pub rest : List Instr
+  pub there : drop k (instrs_of c.g.slots c.ops) ≡ i ∷ rest
+  pub lanes : IsLanes i
 
-  abbrev pub AnsweredTo : ℕ → ℕ → Type 0
-  AnsweredTo l answer = AreAnswered (g.at l) g.crew.block (frames l) (access_of answer (effect_at i pc (xs l)))
+abbrev pub image : (c : Scene) → ℕ → WarpState
+image c k = image_warp c.ops k c.w c.xs
 
-  abbrev pub GoesTo : ℕ → ℕ → Held → Type 0
-  GoesTo l answer h = Goes g w.mask l pc answer choice target (effect_at i pc (xs l)) (held (xs l) (frames l)) h
+abbrev pub after : (c : Scene) → ℕ → Stepped
+after c k = image_step c.g c.ops c.answers k c.w c.xs
 
-  module _ (goes : (l : ℕ) → l < 32 → has_lane w.mask l ≡ true → (answer : ℕ) → AnsweredTo l answer → (h : Held) × GoesTo l answer h) where
-    right : (l : ℕ) → l < 32 → has_lane w.mask l ≡ true → (h : Held) × GoesTo l (right_answer (g.at l) g.crew.block (frames l) (effect_at i pc (xs l))) h
-    right l low active = goes l low active (right_answer (g.at l) g.crew.block (frames l) (effect_at i pc (xs l))) (is_right (g.at l) g.crew.block (frames l) (effect_at i pc (xs l)))
+abbrev pub is_active : Scene → ℕ → Bool
+is_active c l = has_lane c.w.mask l
 
-    leads : (has_lane w.mask (leader w.mask) ≡ true) × (leader w.mask < 32)
-    leads = leader_leads w.mask some.0 some.1.0 some.1.1
+-- what the word is to a lane; that the lane's reads have such an answer; and that it goes so
+abbrev pub effect_to : (c : Scene) → Word c → ℕ → LaneEffect
+effect_to c d l = effect_at d.i (address_of_word d.k) (c.xs l)
 
-    first_chooses : choice_of (effect_in i image (leader w.mask)) ≡ choice
-    first_chooses = ap choice_of (effect_is i image (leader w.mask)) ∙ (right (leader w.mask) leads.1 leads.0).1.chosen
+abbrev pub AnsweredTo : (c : Scene) → Word c → ℕ → ℕ → Type 0
+AnsweredTo c d l answer = AreAnswered (c.g.at l) c.g.crew.block (c.frames l) (access_of answer (effect_to c d l))
 
-    first_leads : leads_to pc (effect_in i image (leader w.mask)) ≡ target
-    first_leads = ap (leads_to pc) (effect_is i image (leader w.mask)) ∙ (right (leader w.mask) leads.1 leads.0).1.leads
+abbrev pub GoesTo : (c : Scene) → Word c → ℕ → ℕ → ℕ → ℕ → Held → Type 0
+GoesTo c d choice target l answer h = Goes c.g c.w.mask l (address_of_word d.k) answer choice target (effect_to c d l) (held (c.xs l) (c.frames l)) h
 
-    fine : (l : ℕ) → l < 32 → has_lane w.mask l ≡ true → fault_of g.has pc (choice_of (effect_in i image (leader w.mask))) (effect_in i image l) ≡ None
-    fine l low active =
-        ap (λ c. fault_of g.has pc c (effect_in i image l)) first_chooses ∙ ap (fault_of g.has pc choice) (effect_is i image l) ∙ (right l low active).1.fault
+-- all active lanes go so, whatever is answered to other reads, to registers and frames of which something holds
+abbrev pub Moves : (c : Scene) → Word c → ℕ → ℕ → (ℕ → ℕ → Held → Type 0) → Type 0
+Moves c d choice target Q = (l : ℕ) → l < 32 → is_active c l ≡ true → (answer : ℕ) → AnsweredTo c d l answer → (h : Held) × (GoesTo c d choice target l answer h × Q l answer h)
 
-    gone : WarpState
-    gone = record image { pc = target; registers = acted_below 32 g.crew.ids i answers image }
+module _ (c : Scene) (d : Word c) (choice target : ℕ) (Q : ℕ → ℕ → Held → Type 0) (moves : Moves c d choice target Q) where
+  right_one : ℕ → ℕ
+  right_one l = right_answer (c.g.at l) c.g.crew.block (c.frames l) (effect_to c d l)
 
-    pub step_is : after ≡ record { warp = gone; accesses = accesses_below 32 i answers image; outcome = step.Next }
-    step_is =
-        ap (fetched_step g.has g.crew.ids answers image) (fetched_here g.slots ops laid.slots within near i rest k there)
-        ∙ lanes g.has g.crew.ids answers image
-        ∙ lanes_go i answers image g.has g.crew.ids small fine
-        ∙ ap (λ n. record { warp = record image { pc = n; registers = acted_below 32 g.crew.ids i answers image }; accesses = accesses_below 32 i answers image; outcome = step.Next }) first_leads
+  right : (l : ℕ) → l < 32 → is_active c l ≡ true → (h : Held) × (GoesTo c d choice target l (right_one l) h × Q l (right_one l) h)
+  right l low active = moves l low active (right_one l) (is_right (c.g.at l) c.g.crew.block (c.frames l) (effect_to c d l))
 
-    pub outcome_is : after.outcome ≡ step.Next
-    outcome_is = ap (λ (s : Stepped). s.outcome) step_is
+  leads : (is_active c (leader c.w.mask) ≡ true) × (leader c.w.mask < 32)
+  leads = leader_leads c.w.mask c.some.0 c.some.1.0 c.some.1.1
 
-    pub warp_is : after.warp ≡ record { pc = target; mask = w.mask; registers = after.warp.registers; stack = map (entry_at ops) w.stack }
-    warp_is =
-        ap (λ (s : Stepped). s.warp) step_is
-        ∙ ap (λ ys. record { pc = target; mask = w.mask; registers = ys; stack = map (entry_at ops) w.stack }) (sym (ap (λ (s : Stepped). s.warp.registers) step_is))
+  first_chooses : choice_of (effect_in d.i (image c d.k) (leader c.w.mask)) ≡ choice
+  first_chooses = ap choice_of (effect_is d.i (image c d.k) (leader c.w.mask)) ∙ (right (leader c.w.mask) leads.1 leads.0).1.0.chosen
 
-    -- ---- one lane
+  first_leads : leads_to (address_of_word d.k) (effect_in d.i (image c d.k) (leader c.w.mask)) ≡ target
+  first_leads = ap (leads_to (address_of_word d.k)) (effect_is d.i (image c d.k) (leader c.w.mask)) ∙ (right (leader c.w.mask) leads.1 leads.0).1.0.leads
 
-    module _ (l : ℕ) (low : l < 32) where
-      lane_accesses_are : of_lane l after.accesses ≡ own_accesses i answers image l
-      lane_accesses_are = ap (λ (s : Stepped). of_lane l s.accesses) step_is ∙ accesses_of i answers image 32 l low
+  fine : (l : ℕ) → l < 32 → is_active c l ≡ true → fault_of c.g.has (address_of_word d.k) (choice_of (effect_in d.i (image c d.k) (leader c.w.mask))) (effect_in d.i (image c d.k) l) ≡ None
+  fine l low active =
+      ap (λ n. fault_of c.g.has (address_of_word d.k) n (effect_in d.i (image c d.k) l)) first_chooses
+      ∙ ap (fault_of c.g.has (address_of_word d.k) choice) (effect_is d.i (image c d.k) l) ∙ (right l low active).1.0.fault
 
-      pub accesses_are : has_lane w.mask l ≡ true → of_lane l after.accesses ≡ access_of (answers l) (effect_at i pc (xs l))
-      accesses_are active = lane_accesses_are ∙ rw active (ap (access_of (answers l)) (effect_is i image l))
+  acted : ℕ → Registers
+  acted = acted_below 32 c.g.crew.ids d.i c.answers (image c d.k)
 
-      pub accesses_none : has_lane w.mask l ≡ false → of_lane l after.accesses ≡ []
-      accesses_none idle = lane_accesses_are ∙ rw idle refl
+  went : ℕ → Stepped
+  went n = record { warp = record { pc = n; mask = c.w.mask; registers = acted; stack = map (entry_at c.ops) c.w.stack }; accesses = accesses_below 32 d.i c.answers (image c d.k); outcome = step.Next }
 
-      pub registers_kept : has_lane w.mask l ≡ false → after.warp.registers l ≡ xs l
-      registers_kept idle = ap (λ (s : Stepped). s.warp.registers l) step_is ∙ acted_idle i answers image g.crew.ids 32 l idle
+  step_is : after c d.k ≡ went target
+  step_is =
+      ap (fetched_step c.g.has c.g.crew.ids c.answers (image c d.k)) (fetched_here c.g.slots c.ops c.laid.slots c.within c.near d.i d.rest d.k d.there)
+      ∙ d.lanes c.g.has c.g.crew.ids c.answers (image c d.k)
+      ∙ lanes_go d.i c.answers (image c d.k) c.g.has c.g.crew.ids c.small fine
+      ∙ ap went first_leads
 
-      pub frame_kept : has_lane w.mask l ≡ false → frame_behind (g.at l) (of_lane l after.accesses) (frames l) ≡ frames l
-      frame_kept idle = ap (λ as. frame_behind (g.at l) as (frames l)) (accesses_none idle)
+  pub outcome_is : (after c d.k).outcome ≡ step.Next
+  outcome_is = ap (λ (s : Stepped). s.outcome) step_is
 
-      pub is_answered : has_lane w.mask l ≡ true → FramesAnswer g after frames → AnsweredTo l (answers l)
-      is_answered active answered = subst (AreAnswered (g.at l) g.crew.block (frames l)) (accesses_are active) (answered l low)
+  pub warp_is : (after c d.k).warp ≡ record { pc = target; mask = c.w.mask; registers = (after c d.k).warp.registers; stack = map (entry_at c.ops) c.w.stack }
+  warp_is =
+      ap (λ (s : Stepped). s.warp) step_is
+      ∙ ap (λ ys. record { pc = target; mask = c.w.mask; registers = ys; stack = map (entry_at c.ops) c.w.stack }) (sym (ap (λ (s : Stepped). s.warp.registers) step_is))
 
-      pub registers_are : has_lane w.mask l ≡ true → (h : Held) → GoesTo l (answers l) h → after.warp.registers l ≡ h.registers
-      registers_are active h to =
-          ap (λ (s : Stepped). s.warp.registers l) step_is ∙ acted_active i answers image g.crew.ids 32 l low active
-          ∙ ap (λ e. registers_after g.crew.ids w.mask l (answers l) e (xs l)) (effect_is i image l) ∙ to.registers
+  -- ---- one lane
 
-      pub frame_is : has_lane w.mask l ≡ true → (h : Held) → GoesTo l (answers l) h → frame_behind (g.at l) (of_lane l after.accesses) (frames l) ≡ h.frame
-      frame_is active h to = ap (λ as. frame_behind (g.at l) as (frames l)) (accesses_are active) ∙ to.frame
+  module _ (l : ℕ) (low : l < 32) where
+    lane_accesses_are : of_lane l (after c d.k).accesses ≡ own_accesses d.i c.answers (image c d.k) l
+    lane_accesses_are = ap (λ (s : Stepped). of_lane l s.accesses) step_is ∙ accesses_of d.i c.answers (image c d.k) 32 l low
 
-      -- the lane behind the step
-      pub lane_is : has_lane w.mask l ≡ true → (h : Held) → GoesTo l (answers l) h → held (after.warp.registers l) (frame_behind (g.at l) (of_lane l after.accesses) (frames l)) ≡ h
-      lane_is active h to = ap (λ ys. held ys (frame_behind (g.at l) (of_lane l after.accesses) (frames l))) (registers_are active h to) ∙ ap (held h.registers) (frame_is active h to)
+    pub accesses_none : is_active c l ≡ false → of_lane l (after c d.k).accesses ≡ []
+    accesses_none idle = lane_accesses_are ∙ rw idle refl
 
-      pub lane_kept : has_lane w.mask l ≡ false → held (after.warp.registers l) (frame_behind (g.at l) (of_lane l after.accesses) (frames l)) ≡ held (xs l) (frames l)
-      lane_kept idle = ap (λ ys. held ys (frame_behind (g.at l) (of_lane l after.accesses) (frames l))) (registers_kept idle) ∙ ap (held (xs l)) (frame_kept idle)
+    pub lane_kept : is_active c l ≡ false → held ((after c d.k).warp.registers l) (frame_behind (c.g.at l) (of_lane l (after c d.k).accesses) (c.frames l)) ≡ held (c.xs l) (c.frames l)
+    lane_kept idle =
+        ap (λ ys. held ys (frame_behind (c.g.at l) (of_lane l (after c d.k).accesses) (c.frames l)))
+        (ap (λ (s : Stepped). s.warp.registers l) step_is ∙ acted_idle d.i c.answers (image c d.k) c.g.crew.ids 32 l idle)
+        ∙ ap (λ as. held (c.xs l) (frame_behind (c.g.at l) as (c.frames l))) (accesses_none idle)
+
+    module _ (active : is_active c l ≡ true) where
+      pub accesses_are : of_lane l (after c d.k).accesses ≡ access_of (c.answers l) (effect_to c d l)
+      accesses_are = lane_accesses_are ∙ rw active (ap (access_of (c.answers l)) (effect_is d.i (image c d.k) l))
+
+      module _ (answered : FramesAnswer c.g (after c d.k) c.frames) where
+        moved : (h : Held) × (GoesTo c d choice target l (c.answers l) h × Q l (c.answers l) h)
+        moved = moves l low active (c.answers l) (subst (AreAnswered (c.g.at l) c.g.crew.block (c.frames l)) accesses_are (answered l low))
+
+        registers_are : (after c d.k).warp.registers l ≡ moved.0.registers
+        registers_are =
+            ap (λ (s : Stepped). s.warp.registers l) step_is ∙ acted_active d.i c.answers (image c d.k) c.g.crew.ids 32 l low active
+            ∙ ap (λ e. registers_after c.g.crew.ids c.w.mask l (c.answers l) e (c.xs l)) (effect_is d.i (image c d.k) l) ∙ moved.1.0.registers
+
+        frame_is : frame_behind (c.g.at l) (of_lane l (after c d.k).accesses) (c.frames l) ≡ moved.0.frame
+        frame_is = ap (λ as. frame_behind (c.g.at l) as (c.frames l)) accesses_are ∙ moved.1.0.frame
+
+        -- what holds behind the step
+        pub holds : Q l (c.answers l) (held ((after c d.k).warp.registers l) (frame_behind (c.g.at l) (of_lane l (after c d.k).accesses) (c.frames l)))
+        holds =
+            subst (Q l (c.answers l))
+            (sym (ap (λ ys. held ys (frame_behind (c.g.at l) (of_lane l (after c d.k).accesses) (c.frames l))) registers_are ∙ ap (held moved.0.registers) frame_is))
+            moved.1.1

@@ -1,0 +1,194 @@
+-- Steps in a block in which no lane asks for anything.
+use Rattle.std.proofs.Common.{◌≡◌, ℕ, zero, suc, ◌+◌, ◌*◌, ◌-◌, ◌%◌, ◌^◌, ◌<◌, ◌≤◌, Bool, true, false, List, [], ◌∷◌, ◌++◌, drop, length, map, ap, sym, subst, ◌∙◌, arith, refl}
+use Rattle.vx_isa.specs.Effects.{address_at}
+use Rattle.vx_isa.specs.Warps.{Registers, has_lane}
+use Rattle.vx_isa.specs.WarpSteps.{access_of}
+use Rattle.vx_isa.specs.declared.instr.Instr.{Instr}
+use Rattle.vcode.specs.Code.{VOp}
+use Rattle.vcode.specs.Machine.{Around}
+use Rattle.vcode.specs.Words.{op_words, words}
+use Rattle.simt_lowering.specs.Bounds.{AreWithin}
+use Rattle.warp_code.specs.Warps.{VWarp, around_of}
+use Rattle.reg_alloc.specs.Plain.{Held, Plain, PutSlot, do_all, does, held, instr_of, made}
+use Rattle.reg_alloc.specs.Blocks.{Block, address_of_word, block, distance, jump}
+use Rattle.reg_alloc.specs.Layout.{block_onto, instrs_from, instrs_of, onto, plain_onto, word_of_place}
+use Rattle.reg_alloc.proofs.Acting.{plain_rest}
+use Rattle.reg_alloc.proofs.Goings.{ReachAll}
+use Rattle.reg_alloc.proofs.Standing.{blocks_stand, jumps_land, places_are_within}
+use Rattle.reg_alloc.proofs.Walking.{Reaches}
+use Rattle.image_warps.specs.Lanes.{Ground, Known, Laid, Same, AsksNothing, frame_behind, frame_start, of_lane}
+use Rattle.image_warps.specs.Warps.{Along, Jumping, LaneStands, Position, Stands, Storing, WordsLeft, block_at, entry_at, word_at}
+use Rattle.image_warps.specs.Laws.{FramesAnswer, InBlock, frames_behind}
+use Rattle.image_warps.proofs.Quiet.{Goes, Quiet, effect_at, plain_lanes, plain_quiet, slot_written}
+use Rattle.image_warps.proofs.Computed.{IsLanes}
+use Rattle.image_warps.proofs.Leading.{jump_goes}
+use Rattle.image_warps.proofs.Stepping.{Moves, Scene, Word, accesses_are, accesses_none, after, effect_to, holds, is_active, lane_kept, outcome_is, warp_is, word_low}
+
+-- ---- words that are done and words that are left
+
+pub onto_both : (done ws : List Plain) (rest : List Instr) → plain_onto (done ++ ws) rest ≡ plain_onto done (plain_onto ws rest)
+onto_both [] ws rest = refl
+onto_both (p ∷ done) ws rest = ap (λ is. instr_of p ∷ is) (onto_both done ws rest)
+
+pub one_more : (done : List Plain) (p : Plain) (ws : List Plain) → done ++ (p ∷ ws) ≡ (done ++ (p ∷ [])) ++ ws
+one_more [] p ws = refl
+one_more (q ∷ done) p ws = ap (λ ps. q ∷ ps) (one_more done p ws)
+
+more_length : (done : List Plain) (p : Plain) → length (done ++ (p ∷ [])) ≡ suc (length done)
+more_length [] p = refl
+more_length (q ∷ done) p = ap suc (more_length done p)
+
+do_more : (at : Around) (done : List Plain) (p : Plain) (h : Held) → do_all at (done ++ (p ∷ [])) h ≡ does at p (do_all at done h)
+do_more at [] p h = refl
+do_more at (q ∷ done) p h = do_more at done p (does at q h)
+
+reach_rest : (slots start : ℕ) (at : Around) (done ws : List Plain) (h : Held) → ReachAll slots start at (done ++ ws) h → ReachAll slots start at ws (do_all at done h)
+reach_rest slots start at [] ws h reach = reach
+reach_rest slots start at (q ∷ done) ws h reach = reach_rest slots start at done ws (does at q h) reach.1
+
+next_word : (k : ℕ) → k < 65536 → address_at (address_of_word k) 4 ≡ address_of_word (suc k)
+next_word k low = omega (arith, low)
+
+-- the words of an operation's block from one on
+pub left_there : (g : Ground) (ops rest : List VOp) (op : VOp) (p : ℕ) (done ws : List Plain) → drop p ops ≡ op ∷ rest → block_at g ops p op ≡ done ++ ws
+    → drop (word_of_place ops p + length done) (instrs_of g.slots ops)
+    ≡ plain_onto ws (onto (block g.slots (word_of_place ops) (op_words op + word_of_place ops p) op).acting (onto (block g.slots (word_of_place ops) (op_words op + word_of_place ops p) op).behind
+    (instrs_from g.slots (word_of_place ops) (op_words op + word_of_place ops p) rest)))
+left_there g ops rest op p done ws e shown =
+    let b = block g.slots (word_of_place ops) (op_words op + word_of_place ops p) op in
+    let last = onto b.acting (onto b.behind (instrs_from g.slots (word_of_place ops) (op_words op + word_of_place ops p) rest)) in
+    plain_rest (instrs_of g.slots ops) done (plain_onto ws last) (word_of_place ops p)
+    (blocks_stand g.slots ops rest op p e ∙ ap (λ ps. plain_onto ps last) shown ∙ onto_both done ws last)
+
+-- ---- one step
+
+-- the lanes that are not active stand for those of the code
+abbrev pub Idle : Scene → (ℕ → Known) → Type 0
+Idle c known = (l : ℕ) → l < 32 → is_active c l ≡ false → Same c.g l (known l) (c.w.lanes l).registers (held (c.xs l) (c.frames l))
+
+-- an active lane stands so, and has asked for nothing
+abbrev Quietly : (c : Scene) → Word c → (ℕ → Known) → Position → ℕ → ℕ → Held → Type 0
+Quietly c d known at l answer h = LaneStands c.g at l (known l) (c.w.lanes l).registers h × AsksNothing (c.g.at l) (access_of answer (effect_to c d l))
+
+module _ (c : Scene) (known : ℕ → Known) (idle : Idle c known) where
+  in_block : (d : Word c) (choice target : ℕ) (at : Position) → target ≡ address_of_word (word_at c.ops c.w at) → WordsLeft c.g c.ops c.w at
+      → FramesAnswer c.g (after c d.k) c.frames → Moves c d choice target (Quietly c d known at) → InBlock c.g c.ops known c.w c.frames (after c d.k)
+  in_block d choice target at leads left answered moves = record {
+    at = at;
+    warp = warp_is c d choice target (Quietly c d known at) moves
+        ∙ ap (λ n. record { pc = n; mask = c.w.mask; registers = (after c d.k).warp.registers; stack = map (entry_at c.ops) c.w.stack }) leads;
+    outcome = outcome_is c d choice target (Quietly c d known at) moves;
+    quiet = λ l low. quiet l low (is_active c l) refl;
+    stands = record {
+      left = left;
+      active = λ l low active. (holds c d choice target (Quietly c d known at) moves l low active answered).0;
+      idle = λ l low none. subst (Same c.g l (known l) (c.w.lanes l).registers) (sym (lane_kept c d choice target (Quietly c d known at) moves l low none)) (idle l low none);
+    };
+  } where
+    quiet : (l : ℕ) → l < 32 → (b : Bool) → is_active c l ≡ b → AsksNothing (c.g.at l) (of_lane l (after c d.k).accesses)
+    quiet l low true active =
+        subst (AsksNothing (c.g.at l)) (sym (accesses_are c d choice target (Quietly c d known at) moves l low active))
+        (holds c d choice target (Quietly c d known at) moves l low active answered).1
+    quiet l low false none = subst (AsksNothing (c.g.at l)) (sym (accesses_none c d choice target (Quietly c d known at) moves l low none)) tt
+
+  -- a word that computes
+  pub along : (op : VOp) (rest : List VOp) (done : List Plain) (p : Plain) (ws : List Plain) → drop c.w.place c.ops ≡ op ∷ rest
+      → block_at c.g c.ops c.w.place op ≡ done ++ (p ∷ ws)
+      → ((l : ℕ) → l < 32 → is_active c l ≡ true → (from : Held) × (Same c.g l (known l) (c.w.lanes l).registers from × (held (c.xs l) (c.frames l) ≡ do_all (around_of c.g.crew l) done from)))
+      → ((l : ℕ) → (from : Held) → l < 32 → is_active c l ≡ true → Same c.g l (known l) (c.w.lanes l).registers from → ReachAll c.g.slots (frame_start c.g l) (around_of c.g.crew l) (block_at c.g c.ops c.w.place op) from)
+      → FramesAnswer c.g (after c (word_of_place c.ops c.w.place + length done)) c.frames
+      → InBlock c.g c.ops known c.w c.frames (after c (word_of_place c.ops c.w.place + length done))
+  along op rest done p ws there shown begun reaches answered =
+      in_block d 0 (address_at (address_of_word d.k) 4) (Along (done ++ (p ∷ []))) leads left answered moves where
+    b = block c.g.slots (word_of_place c.ops) (op_words op + word_of_place c.ops c.w.place) op
+    last = onto b.acting (onto b.behind (instrs_from c.g.slots (word_of_place c.ops) (op_words op + word_of_place c.ops c.w.place) rest))
+
+    d : Word c
+    d = record {
+      k = word_of_place c.ops c.w.place + length done;
+      i = instr_of p;
+      rest = plain_onto ws last;
+      there = left_there c.g c.ops rest op c.w.place done (p ∷ ws) there shown;
+      lanes = λ has ids answers w. plain_lanes has ids answers w p;
+    }
+
+    low_word : d.k < 65536
+    low_word = word_low c.g.slots c.ops c.within c.near d.i d.rest d.k d.there
+
+    leads : address_at (address_of_word d.k) 4 ≡ address_of_word (word_of_place c.ops c.w.place + length (done ++ (p ∷ [])))
+    leads = next_word d.k low_word ∙ ap address_of_word (let e = more_length done p in omega (arith, e))
+
+    left : WordsLeft c.g c.ops c.w (Along (done ++ (p ∷ [])))
+    left op' rest' there' =
+        let same : op ∷ rest ≡ op' ∷ rest' = sym there ∙ there' in
+        let first : op ≡ op' = cc in
+        (ws, subst (λ o. block_at c.g c.ops c.w.place o ≡ (done ++ (p ∷ [])) ++ ws) first (shown ∙ one_more done p ws))
+
+    moves : Moves c d 0 (address_at (address_of_word d.k) 4) (Quietly c d known (Along (done ++ (p ∷ []))))
+    moves l low active answer given =
+        let h = held (c.xs l) (c.frames l) in
+        let from = (begun l low active).0 in
+        let same = (begun l low active).1.0 in
+        let did = (begun l low active).1.1 in
+        let all = subst (λ ps. ReachAll c.g.slots (frame_start c.g l) (around_of c.g.crew l) ps from) shown (reaches l from low active same) in
+        let reach = (reach_rest c.g.slots (frame_start c.g l) (around_of c.g.crew l) done (p ∷ ws) from all).0 in
+        let here : Reaches c.g.slots (frame_start c.g l) h.registers p = subst (λ (x : Held). Reaches c.g.slots (frame_start c.g l) x.registers p) (sym did) reach in
+        let q = plain_quiet c.g c.w.mask l (address_of_word d.k) answer h c.laid low p here given in
+        (does (around_of c.g.crew l) p h,
+        (q.goes, ((from, (same, ap (does (around_of c.g.crew l) p) did ∙ sym (do_more (around_of c.g.crew l) done p from))), q.quiet)))
+
+  -- the word that stores the result of the operation before
+  pub storing : (slot : ℕ) → WordsLeft c.g c.ops c.w (Storing slot) → ((l : ℕ) → l < 32 → is_active c l ≡ true → LaneStands c.g (Storing slot) l (known l) (c.w.lanes l).registers (held (c.xs l) (c.frames l)))
+      → FramesAnswer c.g (after c (word_of_place c.ops c.w.place - 1)) c.frames → InBlock c.g c.ops known c.w c.frames (after c (word_of_place c.ops c.w.place - 1))
+  storing slot left stands answered =
+      in_block d 0 (address_at (address_of_word d.k) 4) (Along []) leads (λ op rest there. (block_at c.g c.ops c.w.place op, refl)) answered moves where
+    d : Word c
+    d = record {
+      k = word_of_place c.ops c.w.place - 1;
+      i = instr_of (PutSlot made slot);
+      rest = left.rest;
+      there = left.there;
+      lanes = λ has ids answers w. plain_lanes has ids answers w (PutSlot made slot);
+    }
+
+    leads : address_at (address_of_word d.k) 4 ≡ address_of_word (word_of_place c.ops c.w.place + 0)
+    leads =
+        let some = left.some in
+        next_word d.k (word_low c.g.slots c.ops c.within c.near d.i d.rest d.k d.there) ∙ ap address_of_word (omega (arith, some))
+
+    moves : Moves c d 0 (address_at (address_of_word d.k) 4) (Quietly c d known (Along []))
+    moves l low active answer given =
+        let h = held (c.xs l) (c.frames l) in
+        let h' = does (around_of c.g.crew l) (PutSlot made slot) h in
+        let s = stands l low active in
+        let q = slot_written c.g c.w.mask l (address_of_word d.k) answer h c.laid low made slot (s.1.frame s.0) left.slot in
+        (h', (q.goes, ((h', (s.1, refl)), q.quiet)))
+
+  -- the jump to the place that the warp goes to
+  pub jumping : (k : ℕ) → WordsLeft c.g c.ops c.w (Jumping k) → ((l : ℕ) → l < 32 → is_active c l ≡ true → LaneStands c.g (Jumping k) l (known l) (c.w.lanes l).registers (held (c.xs l) (c.frames l)))
+      → FramesAnswer c.g (after c k) c.frames → InBlock c.g c.ops known c.w c.frames (after c k)
+  jumping k left stands answered =
+      in_block d target target (Along []) leads (λ op rest there. (block_at c.g c.ops c.w.place op, refl)) answered moves where
+    to = word_of_place c.ops c.w.place
+    target = address_at (address_of_word k) (distance k to)
+
+    d : Word c
+    d = record { k = k; i = jump k to; rest = left.rest; there = left.there; lanes = λ has ids answers w. refl }
+
+    lands : target ≡ address_of_word to
+    lands =
+        let less = left.small in
+        let most = places_are_within c.ops c.w.place in
+        let near = c.near in
+        jumps_land k to (omega (arith, less)) (omega (arith, most, near))
+
+    leads : target ≡ address_of_word (to + 0)
+    leads = lands ∙ ap address_of_word (omega arith)
+
+    whole : target % 4 ≡ 0
+    whole = ap (λ n. n % 4) lands ∙ (omega arith)
+
+    moves : Moves c d target target (Quietly c d known (Along []))
+    moves l low active answer given =
+        let h = held (c.xs l) (c.frames l) in
+        (h, (jump_goes c.g c.w.mask l (address_of_word k) answer (known l) (c.w.lanes l).registers h (stands l low active) (address_at (address_of_word k) 4) target whole, ((h, (stands l low active, refl)), tt)))
