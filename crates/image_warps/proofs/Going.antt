@@ -61,7 +61,7 @@ module _ (i : Instr) (answers : ℕ → ℕ) (w : WarpState) where
         | false ↦ refl
       ]
 
-  below_past : (n l : ℕ) → n ≤ l → of_lane l (accesses_below n i answers w) ≡ []
+  pub below_past : (n l : ℕ) → n ≤ l → of_lane l (accesses_below n i answers w) ≡ []
   unfolding accesses_below
   below_past zero l less = refl
   below_past (suc n) l less =

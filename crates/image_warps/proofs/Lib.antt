@@ -8,3 +8,11 @@ pub mod Made
 pub mod Leading
 pub mod Stepping
 pub mod Inside
+pub mod Overs
+pub mod Acting
+pub mod Whole
+pub mod Together
+pub mod Branches
+pub mod Ends
+pub mod Acts
+pub mod Image

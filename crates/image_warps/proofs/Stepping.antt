@@ -1,5 +1,6 @@
 -- One step of the warp at a word that each active lane does by itself.
-use Rattle.std.proofs.Common.{◌≡◌, ℕ, zero, suc, ◌+◌, ◌*◌, ◌%◌, ◌^◌, ◌<◌, ◌≤◌, Bool, true, false, List, [], ◌∷◌, drop, length, map, Option, None, Some, Result, Ok, Err, ap, sym, subst, ◌∙◌, arith, refl}
+use Rattle.std.proofs.Common.{◌≡◌, ℕ, zero, suc, ◌+◌, ◌*◌, ◌%◌, ◌^◌, ◌<◌, ◌≤◌, Bool, true, false, List, [], ◌∷◌, drop, length, map, Option, None, Some, Result, Ok, Err, ap, sym, subst, ◌∙◌, arith, refl, inl, inr}
+use Rattle.std.proofs.lemmas.Bool.{cases_lt, true≢false}
 use Rattle.vx_base.specs.declared.types.Size.{Size}
 use Rattle.vx_base.specs.declared.types.Size.TheVariants.{One, Two, Four}
 use Rattle.vx_layout.specs.Addresses.{Where, Block, Own, Array, Nowhere}
@@ -10,6 +11,7 @@ use Rattle.vx_isa.specs.declared.instr.Instr.{Instr}
 use Rattle.vx_isa.specs.declared.instr.LaneEffect.{LaneEffect}
 use Rattle.vx_isa.specs.declared.instr.LaneEffect.TheVariants as effect
 use Rattle.vx_isa.specs.declared.warps.Step.TheVariants as step
+use Rattle.vx_isa.proofs.MaskLaws.{has_lane-above}
 use Rattle.vcode.specs.Code.{VOp}
 use Rattle.vcode.specs.Words.{words}
 use Rattle.simt_lowering.specs.Bounds.{AreWithin}
@@ -119,6 +121,14 @@ after c k = image_step c.g c.ops c.answers k c.w c.xs
 
 abbrev pub is_active : Scene → ℕ → Bool
 is_active c l = has_lane c.w.mask l
+
+-- an active lane is one of 32
+pub active_low : (c : Scene) (l : ℕ) → is_active c l ≡ true → l < 32
+active_low c l active =
+    elim (cases_lt l 32) [
+      | inl less ↦ less
+      | inr past ↦ absurd (true≢false (sym active ∙ has_lane-above c.w.mask l c.small past))
+    ]
 
 -- what the word is to a lane; that the lane's reads have such an answer; and that it goes so
 abbrev pub effect_to : (c : Scene) → Word c → ℕ → LaneEffect

@@ -75,5 +75,6 @@ pub record Enters (g : Ground) (ops : List VOp) (known : ℕ → Known) (w : VWa
   pub stands : Stands g ops (all_known Enter w known) (warp_step g.crew ops answers w).warp (Along []) xs frames
 
 abbrev pub EnterLaw : Type 0
-EnterLaw = (g : Ground) (ops rest : List VOp) (known : ℕ → Known) (w : VWarp) (xs : ℕ → Registers) (frames : ℕ → ℕ → ℕ) (answers : ℕ → ℕ)
+EnterLaw = (g : Ground) (ops rest : List VOp) → Laid g → AreWithin g.slots ops → words ops ≤ 65536
+    → (known : ℕ → Known) (w : VWarp) (xs : ℕ → Registers) (frames : ℕ → ℕ → ℕ) (answers : ℕ → ℕ)
     → InOrder g ops known w answers → drop w.place ops ≡ Enter ∷ rest → Stands g ops known w (Along []) xs frames → Enters g ops known w answers xs frames
