@@ -1,30 +1,28 @@
 -- The word by which an operation is made, where its block stands.
-use Rattle.std.proofs.Common.{◌≡◌, ℕ, zero, suc, ◌+◌, ◌*◌, ◌-◌, ◌%◌, ◌^◌, ◌<◌, ◌≤◌, Bool, true, false, not, if◌then◌else◌, List, [], ◌∷◌, ◌++◌, drop, length, map, ap, sym, subst, ◌∙◌, arith, refl}
+use Rattle.std.proofs.Common.{◌≡◌, ℕ, suc, ◌+◌, ◌-◌, ◌%◌, ◌<◌, true, List, [], ◌∷◌, ◌++◌, drop, length, ap, sym, subst, ◌∙◌, arith, refl}
 use Rattle.vx_isa.specs.Effects.{address_at}
-use Rattle.vx_isa.specs.WarpSteps.{access_of}
 use Rattle.vx_isa.specs.declared.instr.Instr.{Instr}
 use Rattle.vx_isa.specs.declared.instr.LaneEffect.TheVariants as effect
 use Rattle.vx_isa.specs.declared.warps.Step.TheVariants as step
 use Rattle.vcode.specs.Code.{VOp}
 use Rattle.vcode.specs.Words.{op_words}
 use Rattle.warp_code.specs.Warps as code
-use Rattle.warp_code.specs.Warps.{VWarp, around_of, warp_op}
+use Rattle.warp_code.specs.Warps.{around_of, warp_op}
 use Rattle.reg_alloc.specs.Plain.{Held, Plain, PutSlot, do_all, held, instr_of, made}
 use Rattle.reg_alloc.specs.Blocks.{Block, address_of_word, block, distance, ends, jump, leads, stores}
 use Rattle.reg_alloc.specs.Layout.{instrs_from, instrs_of, onto, word_of_place}
 use Rattle.reg_alloc.proofs.Goings.{rest_at}
 use Rattle.reg_alloc.proofs.Sizes.{block_size, size}
 use Rattle.reg_alloc.proofs.Standing.{jumps_land, places_are_within}
-use Rattle.image_warps.specs.Lanes.{Ground, Known, Same, known_behind}
-use Rattle.image_warps.specs.Warps.{Along, Jumping, LaneStands, Position, Storing, block_at}
+use Rattle.image_warps.specs.Lanes.{Known, Same, known_behind}
+use Rattle.image_warps.specs.Warps.{Along, Jumping, Position, Storing, block_at}
 use Rattle.image_warps.specs.Laws.{FramesAnswer, IsOver}
-use Rattle.image_warps.proofs.Quiet.{Goes, effect_at}
+use Rattle.image_warps.proofs.Quiet.{effect_at}
 use Rattle.image_warps.proofs.Computed.{IsLanes}
-use Rattle.image_warps.proofs.Leading.{branch_goes, jump_goes}
 use Rattle.image_warps.proofs.Made.{Answered, Made}
-use Rattle.image_warps.proofs.Stepping.{Moves, Scene, Word, after, effect_to, is_active, word_low}
+use Rattle.image_warps.proofs.Stepping.{Moves, Scene, Word, after, is_active, word_low}
 use Rattle.image_warps.proofs.Inside.{Idle, left_there, next_word}
-use Rattle.image_warps.proofs.Overs.{Ordered, Over, agree, goes_to, lanes_behind, next_place, one_behind, over}
+use Rattle.image_warps.proofs.Overs.{Ordered, Over, goes_to, lanes_behind, next_place, one_behind, over}
 
 nothing_more : (ws : List Plain) → ws ≡ ws ++ []
 nothing_more [] = refl

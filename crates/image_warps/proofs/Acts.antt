@@ -1,5 +1,5 @@
 -- The word by which each operation is made: one step of the warp of the code, or a trap at a failed check.
-use Rattle.std.proofs.Common.{◌≡◌, ℕ, zero, suc, ◌+◌, ◌*◌, ◌-◌, ◌/◌, ◌%◌, ◌^◌, ◌<◌, ◌≤◌, Bool, true, false, not, nat_eq, nat_lt, if◌then◌else◌, List, [], ◌∷◌, drop, length, ap, sym, subst, ◌∙◌, arith, refl}
+use Rattle.std.proofs.Common.{◌≡◌, ℕ, zero, suc, ◌+◌, ◌*◌, ◌%◌, ◌^◌, ◌<◌, Bool, true, false, not, nat_eq, if◌then◌else◌, List, [], ◌∷◌, length, ap, sym, subst, ◌∙◌, arith, refl}
 use Rattle.std.specs.Prelude.{◌&&◌, ◌==◌}
 use Rattle.vx_base.specs.Values.{alu_value_of}
 use Rattle.vx_base.specs.declared.types.Alu.{Alu}
@@ -13,34 +13,32 @@ use Rattle.kir.specs.Machine.{value}
 use Rattle.kir.specs.Numbered.{IsBelow}
 use Rattle.kir.specs.Trees.{Operand, VariableOf, NumberOf}
 use Rattle.vx_isa.specs.Effects.{address_at}
-use Rattle.vx_isa.specs.Warps.{Registers, leader, value_in, with_register}
+use Rattle.vx_isa.specs.Warps.{leader, value_in}
 use Rattle.vx_isa.specs.declared.instr.Instr.{Instr}
 use Rattle.vx_isa.specs.declared.instr.Instr.TheVariants as instr
 use Rattle.vx_isa.specs.declared.instr.LaneEffect.TheVariants as effect
 use Rattle.vcode.specs.Code.{VOp, Fresh, Copy, Compute, Cut, Word, WordAt, Learn, Fetch, Write, IfZero, IfNot, Goto, Split, Join, Pred, Tmc, Wspawn, Bar, Trap, Enter, Leaves, Again}
 use Rattle.simt_lowering.specs.Bounds.{OpWithin}
 use Rattle.mask_laws.specs.Clean.{IsWritten, ReadsWritten}
-use Rattle.warp_code.specs.Warps as code
 use Rattle.warp_code.specs.Warps.{VLane, around_of, as_lane, chooses, disagrees, same_choice}
-use Rattle.reg_alloc.specs.Plain.{AddTo, Calculate, GetBlock, GetSlot, Held, High, Plain, PutSlot, ShiftLeft, do_all, held, instr_of, left, lower, made, right, set, upper}
-use Rattle.reg_alloc.specs.Blocks.{address_of_word, block, compute_word, csr_number, cut_word, ends, fresh_before, jump, load_word, operand_before, pair_before, register_of, right_before, spare_bits, store_word}
-use Rattle.reg_alloc.specs.Layout.{instrs_of, word_of_place}
-use Rattle.reg_alloc.proofs.Bringing.{brought, has_value, operand_brings, others_kept, pair_brings}
+use Rattle.reg_alloc.specs.Plain.{Calculate, GetBlock, GetSlot, Held, Plain, PutSlot, ShiftLeft, do_all, held, instr_of, left, lower, made, right, set, upper}
+use Rattle.reg_alloc.specs.Blocks.{address_of_word, block, compute_word, csr_number, cut_word, ends, fresh_before, load_word, operand_before, pair_before, register_of, right_before, spare_bits, store_word}
+use Rattle.reg_alloc.specs.Layout.{word_of_place}
+use Rattle.reg_alloc.proofs.Bringing.{brought, has_value, operand_brings, pair_brings}
 use Rattle.reg_alloc.proofs.Computing.{right_brings}
 use Rattle.reg_alloc.proofs.ComputingAlong.{both_brought, first_value, last_value}
 use Rattle.reg_alloc.proofs.Standing.{places_are_within}
-use Rattle.image_warps.specs.Lanes.{Ground, Known, Same, AsksAlike, known_behind}
-use Rattle.image_warps.specs.Warps.{Along, Position, Storing, address_of_place}
+use Rattle.image_warps.specs.Lanes.{Known, Same}
+use Rattle.image_warps.specs.Warps.{address_of_place}
 use Rattle.image_warps.specs.Premises.{HasWord, IsBased, Reaches}
 use Rattle.image_warps.specs.Laws.{Broken, FramesAnswer, IsOver, OneStep, Over}
-use Rattle.image_warps.proofs.Quiet.{effect_at}
-use Rattle.image_warps.proofs.Computed.{IsLanes, compute_lanes, cut_lanes, load_lanes, store_lanes}
-use Rattle.image_warps.proofs.Values.{Kept, both_kept, left_same, left_value, same_kept, set_kept, value_is}
+use Rattle.image_warps.proofs.Computed.{compute_lanes, cut_lanes, load_lanes, store_lanes}
+use Rattle.image_warps.proofs.Values.{both_kept, left_same, left_value, same_kept, set_kept, value_is}
 use Rattle.image_warps.proofs.Made.{compute_made, copy_made, cut_made, fetch_made, fresh_made, learn_made, word_at_made, word_made}
 use Rattle.image_warps.proofs.Leading.{jump_goes, write_made}
 use Rattle.image_warps.proofs.Stepping.{Scene, active_low, after, is_active, word_low}
 use Rattle.image_warps.proofs.Inside.{Idle, next_word}
-use Rattle.image_warps.proofs.Overs.{Ordered, agree, lanes_behind, leads, next_place, one_behind}
+use Rattle.image_warps.proofs.Overs.{Ordered, agree, next_place}
 use Rattle.image_warps.proofs.Acting.{Begun, ends_over, goes_over, size_is, stores_over, this_block, word_there}
 use Rattle.image_warps.proofs.Branches.{alike, branch_over}
 use Rattle.image_warps.proofs.Whole.{AllSame}

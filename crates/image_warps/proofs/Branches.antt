@@ -1,27 +1,22 @@
 -- Branches that all active lanes take alike, and jumps.
-use Rattle.std.proofs.Common.{◌≡◌, ℕ, zero, suc, ◌+◌, ◌*◌, ◌-◌, ◌%◌, ◌^◌, ◌<◌, ◌≤◌, Bool, true, false, not, nat_eq, if◌then◌else◌, List, [], ◌∷◌, drop, length, ap, sym, subst, ◌∙◌, arith, refl}
-use Rattle.std.specs.Prelude.{◌&&◌, ◌==◌}
-use Rattle.kir.specs.Machine.{value}
+use Rattle.std.proofs.Common.{◌≡◌, ℕ, suc, ◌+◌, ◌-◌, ◌%◌, ◌<◌, Bool, true, false, not, if◌then◌else◌, List, [], length, sym, subst, arith, refl}
 use Rattle.kir.specs.Numbered.{IsBelow}
 use Rattle.kir.specs.Trees.{Operand}
 use Rattle.vx_isa.specs.Effects.{address_at}
-use Rattle.vx_isa.specs.Warps.{leader, value_in}
-use Rattle.vx_isa.specs.WarpSteps.{access_of}
 use Rattle.vx_isa.specs.declared.instr.Instr.{Instr}
-use Rattle.vx_isa.specs.declared.instr.LaneEffect.{LaneEffect}
 use Rattle.vx_isa.specs.declared.instr.LaneEffect.TheVariants as effect
 use Rattle.vcode.specs.Code.{VOp}
 use Rattle.vcode.specs.Words.{op_words}
 use Rattle.warp_code.specs.Warps as code
 use Rattle.warp_code.specs.Warps.{around_of, same_choice, warp_op}
 use Rattle.reg_alloc.specs.Plain.{Held, Plain, do_all, left}
-use Rattle.reg_alloc.specs.Blocks.{Block, address_of_word, block, jump, leads, operand_before}
+use Rattle.reg_alloc.specs.Blocks.{address_of_word, jump, leads, operand_before}
 use Rattle.reg_alloc.specs.Layout.{word_of_place}
 use Rattle.reg_alloc.proofs.Bringing.{brought, operand_brings}
-use Rattle.image_warps.specs.Lanes.{Ground, Known, Same, AsksAlike, known_behind}
+use Rattle.image_warps.specs.Lanes.{Known, Same, AsksAlike, known_behind}
 use Rattle.image_warps.specs.Warps.{Along, Jumping, LaneStands, Position}
 use Rattle.image_warps.specs.Laws.{FramesAnswer, IsOver}
-use Rattle.image_warps.proofs.Quiet.{Goes, effect_at}
+use Rattle.image_warps.proofs.Quiet.{effect_at}
 use Rattle.image_warps.proofs.Computed.{IsLanes}
 use Rattle.image_warps.proofs.Leading.{branch_goes}
 use Rattle.image_warps.proofs.Made.{Made}
@@ -29,7 +24,7 @@ use Rattle.image_warps.proofs.Values.{left_same}
 use Rattle.image_warps.proofs.Stepping.{Scene, after, is_active}
 use Rattle.image_warps.proofs.Inside.{Idle}
 use Rattle.image_warps.proofs.Overs.{Ordered, lanes_behind, one_behind}
-use Rattle.image_warps.proofs.Acting.{Begun, MadeBy, jumps_over, skips_over, this_block}
+use Rattle.image_warps.proofs.Acting.{Begun, jumps_over, skips_over, this_block}
 
 fourth : (n m : ℕ) → m % 4 ≡ 0 → address_at (address_of_word n) m % 4 ≡ 0
 fourth n m e = omega (arith, e)

@@ -1,5 +1,5 @@
 -- The words by which operations that compute are made: what they are to a lane.
-use Rattle.std.proofs.Common.{◌≡◌, ℕ, zero, suc, ◌+◌, ◌*◌, ◌/◌, ◌%◌, ◌^◌, ◌<◌, Bool, true, false, nat_eq, nat_lt, if◌then◌else◌, List, [], ◌∷◌, ap, sym, subst, ◌∙◌, arith, refl, ℤ, pos, negsuc}
+use Rattle.std.proofs.Common.{◌≡◌, ℕ, ◌^◌, ◌<◌, true, false, nat_lt, if◌then◌else◌, [], arith, refl}
 use Rattle.std.proofs.lemmas.Int.{ints}
 use Rattle.vx_base.specs.Values.{alu_value_of, fitted}
 use Rattle.vx_base.specs.declared.types.Alu.{Alu}
@@ -8,13 +8,13 @@ use Rattle.vx_base.specs.declared.types.Elem.{Elem}
 use Rattle.vx_base.specs.declared.types.Elem.TheVariants as elem
 use Rattle.kir.specs.Trees.{Operand, VariableOf, NumberOf}
 use Rattle.vx_isa.specs.Warps.{Registers, WarpState, value_in}
-use Rattle.vx_isa.specs.WarpSteps.{Fields, Stepped, instr_step, lanes_step}
+use Rattle.vx_isa.specs.WarpSteps.{Fields, instr_step, lanes_step}
 use Rattle.vx_isa.specs.declared.instr.Instr.{Instr}
 use Rattle.vx_isa.specs.declared.instr.Instr.TheVariants as instr
 use Rattle.vx_isa.specs.declared.instr.LaneEffect.TheVariants as effect
 use Rattle.vx_isa.specs.declared.warps.Ids.{Ids}
-use Rattle.reg_alloc.specs.Plain.{left, made, right}
-use Rattle.reg_alloc.specs.Blocks.{compute_word, cut_word, load_word, number_register, register_of, spare_bits, store_word}
+use Rattle.reg_alloc.specs.Plain.{made, right}
+use Rattle.reg_alloc.specs.Blocks.{compute_word, cut_word, load_word, number_register, spare_bits, store_word}
 use Rattle.reg_alloc.proofs.Computing.{second_value}
 use Rattle.image_warps.proofs.Quiet.{effect_at}
 

@@ -1,31 +1,29 @@
 -- A failed check, and the operation that enters a loop.
-use Rattle.std.proofs.Common.{◌≡◌, ℕ, zero, suc, ◌+◌, ◌*◌, ◌-◌, ◌%◌, ◌^◌, ◌<◌, ◌≤◌, Bool, true, false, not, nat_lt, if◌then◌else◌, List, [], ◌∷◌, drop, length, map, Option, None, Some, ap, sym, subst, ◌∙◌, arith, refl, inl, inr, ltb-true}
+use Rattle.std.proofs.Common.{◌≡◌, ℕ, suc, ◌+◌, ◌<◌, Bool, true, false, nat_lt, if◌then◌else◌, [], ◌∷◌, map, Some, ap, sym, subst, ◌∙◌, arith, refl, inl, inr, ltb-true}
 use Rattle.std.specs.Prelude.{◌&&◌, is_some}
 use Rattle.std.proofs.Math.Path.{fun_ext}
 use Rattle.std.proofs.lemmas.Bool.{cases_lt}
 use Rattle.vx_base.specs.declared.types.Pos.{Pos}
-use Rattle.vx_isa.specs.Warps.{Registers, WarpState, has_lane, leader, least_below}
+use Rattle.vx_isa.specs.Warps.{has_lane, leader}
 use Rattle.vx_isa.specs.WarpSteps.{Stepped, accesses_below, acted_below, choice_of, effect_in, fault_of, fetched_step, lane_fault, lanes_stepped, registers_after, stop_lane}
-use Rattle.vx_isa.specs.declared.instr.Instr.{Instr}
 use Rattle.vx_isa.specs.declared.instr.Instr.TheVariants as instr
-use Rattle.vx_isa.specs.declared.warps.MachineTrap.{MachineTrap}
 use Rattle.vx_isa.specs.declared.warps.MachineTrap.TheVariants as trap
 use Rattle.vx_isa.specs.declared.warps.Step.TheVariants as step
 use Rattle.vx_isa.proofs.MaskLaws.{least_below-found}
-use Rattle.vcode.specs.Code.{VOp, Trap, Enter}
+use Rattle.vcode.specs.Code.{Trap, Enter}
 use Rattle.warp_code.specs.Warps as code
-use Rattle.warp_code.specs.Warps.{VLane, stepped, warp_step}
+use Rattle.warp_code.specs.Warps.{stepped, warp_step}
 use Rattle.reg_alloc.specs.Plain.{Held, held}
 use Rattle.reg_alloc.specs.Blocks.{address_of_word, ends}
-use Rattle.reg_alloc.specs.Layout.{instrs_of, word_of_place}
-use Rattle.image_warps.specs.Lanes.{Ground, Known, Same, of_lane}
-use Rattle.image_warps.specs.Warps.{Along, LaneStands, Stands, block_at, entry_at, image_warp, word_at}
+use Rattle.reg_alloc.specs.Layout.{word_of_place}
+use Rattle.image_warps.specs.Lanes.{Known, Same, of_lane}
+use Rattle.image_warps.specs.Warps.{Along, Stands, block_at, entry_at, image_warp, word_at}
 use Rattle.image_warps.specs.Laws.{Enters, IsBroken, all_known}
 use Rattle.image_warps.proofs.Sets.{before_least, leader_leads}
 use Rattle.image_warps.proofs.Going.{accesses_of, below_past, effect_is}
 use Rattle.image_warps.proofs.Stepping.{Scene, after, fetched_here, image, is_active}
 use Rattle.image_warps.proofs.Inside.{Idle}
-use Rattle.image_warps.proofs.Overs.{Ordered, behind_is, goes_to, lanes_behind, next_place}
+use Rattle.image_warps.proofs.Overs.{Ordered, goes_to, lanes_behind, next_place}
 use Rattle.image_warps.proofs.Acting.{word_there}
 
 module _ (c : Scene) (known : ℕ → Known) (idle : Idle c known) (pos : Pos) (o : Ordered c (Trap pos)) where

@@ -1,15 +1,13 @@
 -- An instruction that each active lane does, where none of them traps: the whole step of the warp, and what each lane accesses in it.
-use Rattle.std.proofs.Common.{◌≡◌, ℕ, zero, suc, ◌+◌, ◌<◌, ◌≤◌, Bool, true, false, nat_eq, nat_lt, if◌then◌else◌, List, [], ◌∷◌, ◌++◌, map, Option, None, Some, ap, sym, subst, ◌∙◌, arith, refl, lt-ltb, eq-eqb, ne_eqb, inl, inr}
+use Rattle.std.proofs.Common.{◌≡◌, ℕ, zero, suc, ◌<◌, ◌≤◌, Bool, true, false, nat_eq, nat_lt, if◌then◌else◌, List, [], ◌∷◌, ◌++◌, map, None, ap, ◌∙◌, arith, refl, lt-ltb, eq-eqb, ne_eqb, inl, inr, ◌^◌, ◌⊎◌}
 use Rattle.std.specs.Prelude.{◌&&◌, is_some}
 use Rattle.std.proofs.lemmas.Bool.{cases_lt}
 use Rattle.vx_isa.specs.Effects.{effect_of}
 use Rattle.vx_isa.specs.Operands.{rs1_of, rs2_of}
-use Rattle.vx_isa.specs.Warps.{WarpState, Registers, has_lane, leader, least_below, value_in}
-use Rattle.vx_isa.specs.WarpSteps.{Access, Fields, LaneAccess, Stepped, access_of, accesses_below, acted_below, choice_of, effect_in, fault_of, lane_accesses, lane_fault, lanes_step, lanes_stepped, leads_to, registers_after, stop_lane}
+use Rattle.vx_isa.specs.Warps.{WarpState, has_lane, leader, value_in}
+use Rattle.vx_isa.specs.WarpSteps.{Access, Fields, LaneAccess, access_of, accesses_below, acted_below, choice_of, effect_in, fault_of, lane_accesses, lane_fault, lanes_step, lanes_stepped, leads_to, registers_after, stop_lane}
 use Rattle.vx_isa.specs.declared.instr.Instr.{Instr}
-use Rattle.vx_isa.specs.declared.instr.LaneEffect.{LaneEffect}
 use Rattle.vx_isa.specs.declared.warps.Ids.{Ids}
-use Rattle.vx_isa.specs.declared.warps.MachineTrap.{MachineTrap}
 use Rattle.vx_isa.specs.declared.warps.Step.TheVariants as step
 use Rattle.vx_isa.proofs.MaskLaws.{has_lane-above, least_below-none}
 use Rattle.image_warps.specs.Lanes.{of_lane}

@@ -1,20 +1,19 @@
 -- The law of a warp at the words of operations.
-use Rattle.std.proofs.Common.{◌≡◌, ℕ, zero, suc, ◌+◌, ◌<◌, ◌≤◌, Bool, true, false, List, [], ◌∷◌, ◌++◌, drop, length, ap, sym, subst, ◌∙◌, arith, refl}
-use Rattle.vx_isa.specs.Warps.{Registers, has_lane}
-use Rattle.vcode.specs.Code.{VOp, Enter}
+use Rattle.std.proofs.Common.{◌≡◌, ℕ, zero, suc, ◌+◌, ◌≤◌, List, [], ◌∷◌, ◌++◌, drop, length, ap, subst, ◌∙◌, refl}
+use Rattle.vx_isa.specs.Warps.{Registers}
+use Rattle.vcode.specs.Code.{VOp}
 use Rattle.vcode.specs.Words.{op_words, words}
 use Rattle.simt_lowering.specs.Bounds.{AreWithin, OpWithin}
 use Rattle.warp_code.specs.Warps.{VWarp}
-use Rattle.reg_alloc.specs.Plain.{Held, Plain}
+use Rattle.reg_alloc.specs.Plain.{Plain}
 use Rattle.reg_alloc.specs.Layout.{word_of_place}
-use Rattle.image_warps.specs.Lanes.{Ground, Known, Laid, Same}
-use Rattle.image_warps.specs.Warps.{Along, Jumping, LaneStands, Position, Stands, Storing, block_at, image_step, word_at}
+use Rattle.image_warps.specs.Lanes.{Ground, Known, Laid}
+use Rattle.image_warps.specs.Warps.{Along, Jumping, Position, Stands, Storing, block_at, word_at}
 use Rattle.image_warps.specs.Premises.{InOrder, TakesWord}
 use Rattle.image_warps.specs.Laws.{EnterLaw, FramesAnswer, ImageLaw, Inside, OneStep}
 use Rattle.image_warps.proofs.Reached.{op_reaches}
-use Rattle.image_warps.proofs.Stepping.{Scene, after, is_active}
+use Rattle.image_warps.proofs.Stepping.{Scene, after}
 use Rattle.image_warps.proofs.Inside.{along, jumping, storing}
-use Rattle.image_warps.proofs.Overs.{Ordered}
 use Rattle.image_warps.proofs.Acting.{Begun}
 use Rattle.image_warps.proofs.Acts.{Ready, acts}
 use Rattle.image_warps.proofs.Ends.{enters}

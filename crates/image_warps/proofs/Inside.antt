@@ -1,26 +1,23 @@
 -- Steps in a block in which no lane asks for anything.
-use Rattle.std.proofs.Common.{◌≡◌, ℕ, zero, suc, ◌+◌, ◌*◌, ◌-◌, ◌%◌, ◌^◌, ◌<◌, ◌≤◌, Bool, true, false, List, [], ◌∷◌, ◌++◌, drop, length, map, ap, sym, subst, ◌∙◌, arith, refl}
+use Rattle.std.proofs.Common.{◌≡◌, ℕ, suc, ◌+◌, ◌-◌, ◌%◌, ◌<◌, Bool, true, false, List, [], ◌∷◌, ◌++◌, drop, length, map, ap, sym, subst, ◌∙◌, arith, refl}
 use Rattle.vx_isa.specs.Effects.{address_at}
-use Rattle.vx_isa.specs.Warps.{Registers, has_lane}
 use Rattle.vx_isa.specs.WarpSteps.{access_of}
 use Rattle.vx_isa.specs.declared.instr.Instr.{Instr}
 use Rattle.vcode.specs.Code.{VOp}
 use Rattle.vcode.specs.Machine.{Around}
-use Rattle.vcode.specs.Words.{op_words, words}
-use Rattle.simt_lowering.specs.Bounds.{AreWithin}
-use Rattle.warp_code.specs.Warps.{VWarp, around_of}
+use Rattle.vcode.specs.Words.{op_words}
+use Rattle.warp_code.specs.Warps.{around_of}
 use Rattle.reg_alloc.specs.Plain.{Held, Plain, PutSlot, do_all, does, held, instr_of, made}
-use Rattle.reg_alloc.specs.Blocks.{Block, address_of_word, block, distance, jump}
-use Rattle.reg_alloc.specs.Layout.{block_onto, instrs_from, instrs_of, onto, plain_onto, word_of_place}
+use Rattle.reg_alloc.specs.Blocks.{address_of_word, block, distance, jump}
+use Rattle.reg_alloc.specs.Layout.{instrs_from, instrs_of, onto, plain_onto, word_of_place}
 use Rattle.reg_alloc.proofs.Acting.{plain_rest}
 use Rattle.reg_alloc.proofs.Goings.{ReachAll}
 use Rattle.reg_alloc.proofs.Standing.{blocks_stand, jumps_land, places_are_within}
 use Rattle.reg_alloc.proofs.Walking.{Reaches}
-use Rattle.image_warps.specs.Lanes.{Ground, Known, Laid, Same, AsksNothing, frame_behind, frame_start, of_lane}
-use Rattle.image_warps.specs.Warps.{Along, Jumping, LaneStands, Position, Stands, Storing, WordsLeft, block_at, entry_at, word_at}
-use Rattle.image_warps.specs.Laws.{FramesAnswer, InBlock, frames_behind}
-use Rattle.image_warps.proofs.Quiet.{Goes, Quiet, effect_at, plain_lanes, plain_quiet, slot_written}
-use Rattle.image_warps.proofs.Computed.{IsLanes}
+use Rattle.image_warps.specs.Lanes.{Ground, Known, Same, AsksNothing, frame_start, of_lane}
+use Rattle.image_warps.specs.Warps.{Along, Jumping, LaneStands, Position, Storing, WordsLeft, block_at, entry_at, word_at}
+use Rattle.image_warps.specs.Laws.{FramesAnswer, InBlock}
+use Rattle.image_warps.proofs.Quiet.{plain_lanes, plain_quiet, slot_written}
 use Rattle.image_warps.proofs.Leading.{jump_goes}
 use Rattle.image_warps.proofs.Stepping.{Moves, Scene, Word, accesses_are, accesses_none, after, effect_to, holds, is_active, lane_kept, outcome_is, warp_is, word_low}
 

@@ -1,29 +1,25 @@
 -- Stores to arrays, branches and jumps: what the words by which they are made are to an active lane.
-use Rattle.std.proofs.Common.{◌≡◌, ℕ, zero, suc, ◌+◌, ◌*◌, ◌%◌, ◌^◌, ◌<◌, ◌≤◌, Bool, true, false, not, nat_eq, nat_lt, if◌then◌else◌, List, [], ◌∷◌, Option, None, Some, ap, sym, subst, ◌∙◌, arith, refl, eq-eqb}
+use Rattle.std.proofs.Common.{◌≡◌, ℕ, suc, ◌*◌, ◌%◌, ◌^◌, ◌<◌, Bool, true, false, nat_eq, if◌then◌else◌, [], None, Some, ap, sym, subst, ◌∙◌, arith, refl, eq-eqb}
 use Rattle.std.specs.Prelude.{◌&&◌}
 use Rattle.std.proofs.Math.Path.{fun_ext}
-use Rattle.std.proofs.lemmas.Bool.{and_right}
 use Rattle.vx_base.specs.Bytes.{bytes_of}
 use Rattle.vx_base.specs.declared.types.Alu.TheVariants as alu
 use Rattle.vx_base.specs.declared.types.Elem.{Elem}
 use Rattle.vx_base.specs.declared.types.Elem.TheVariants as elem
 use Rattle.vx_base.specs.declared.types.Size.{Size}
 use Rattle.vx_base.specs.declared.types.Size.TheVariants.{One, Two, Four}
-use Rattle.item_acts.specs.declared.acts.Action.TheVariants.{Load, Store}
-use Rattle.item_acts.specs.Machine.{Step, Go, Ask, Stop}
+use Rattle.item_acts.specs.declared.acts.Action.TheVariants.{Store}
+use Rattle.item_acts.specs.Machine.{Ask}
 use Rattle.item_settings.specs.Settings.{elem_size, low_bytes}
 use Rattle.kir.specs.Machine.{value}
 use Rattle.kir.specs.Numbered.{IsBelow}
-use Rattle.kir.specs.Trees.{Operand, VariableOf, NumberOf}
+use Rattle.kir.specs.Trees.{Operand}
 use Rattle.vx_isa.specs.Effects.{address_at}
 use Rattle.vx_isa.specs.Warps.{Registers, value_in, with_register}
-use Rattle.vx_isa.specs.WarpSteps.{Writes, access_of, choice_of, fault_of, leads_to}
-use Rattle.vx_isa.specs.declared.instr.Instr.{Instr}
-use Rattle.vx_isa.specs.declared.instr.Instr.TheVariants as instr
 use Rattle.vx_isa.specs.declared.instr.LaneEffect.{LaneEffect}
 use Rattle.vx_isa.specs.declared.instr.LaneEffect.TheVariants as effect
 use Rattle.vx_isa.specs.declared.warps.MachineTrap.TheVariants as trap
-use Rattle.vcode.specs.Code.{VOp, Write}
+use Rattle.vcode.specs.Code.{Write}
 use Rattle.vcode.specs.Machine.{Lane, lane}
 use Rattle.mask_laws.specs.Clean.{IsWritten}
 use Rattle.warp_code.specs.Warps as code
@@ -33,8 +29,8 @@ use Rattle.reg_alloc.specs.Blocks.{operand_before, register_of, right_before, st
 use Rattle.reg_alloc.proofs.Bringing.{brought, operand_brings}
 use Rattle.reg_alloc.proofs.Computing.{right_brings}
 use Rattle.reg_alloc.proofs.ComputingAlong.{both_brought, first_value, last_value}
-use Rattle.image_warps.specs.Lanes.{Ground, Laid, Known, Same, known_behind, stored}
-use Rattle.image_warps.specs.Warps.{LaneStands, Position, Along, Jumping}
+use Rattle.image_warps.specs.Lanes.{Ground, Known, Same, stored}
+use Rattle.image_warps.specs.Warps.{Along}
 use Rattle.image_warps.specs.Premises.{IsThere}
 use Rattle.image_warps.proofs.Quiet.{Goes, effect_at, field_fine}
 use Rattle.image_warps.proofs.Values.{both_kept, same_kept, value_is, value_word}

@@ -1,7 +1,6 @@
 -- The words by which operations are made that lead on: what they are to an active lane whose registers and frame stand for those of the code.
-use Rattle.std.proofs.Common.{◌≡◌, ℕ, zero, suc, ◌+◌, ◌*◌, ◌/◌, ◌%◌, ◌^◌, ◌<◌, ◌≤◌, Bool, true, false, not, nat_eq, nat_lt, if◌then◌else◌, List, [], ◌∷◌, Option, None, Some, ap, sym, subst, ◌∙◌, arith, refl}
+use Rattle.std.proofs.Common.{◌≡◌, ℕ, suc, ◌+◌, ◌*◌, ◌%◌, ◌^◌, ◌<◌, ◌≤◌, Bool, true, false, [], ◌∷◌, ap, sym, subst, ◌∙◌, arith, refl}
 use Rattle.std.proofs.Math.Nat.{mod-eq_of_lt, mul-le-mul}
-use Rattle.vx_base.specs.Bytes.{bytes_of}
 use Rattle.vx_base.specs.Values.{alu_value_of, fitted}
 use Rattle.vx_base.specs.declared.types.Alu.{Alu}
 use Rattle.vx_base.specs.declared.types.Alu.TheVariants as alu
@@ -10,18 +9,17 @@ use Rattle.vx_base.specs.declared.types.Elem.TheVariants as elem
 use Rattle.vx_base.specs.declared.types.Size.{Size}
 use Rattle.vx_base.specs.declared.types.Size.TheVariants.{One, Two, Four}
 use Rattle.vx_base.proofs.ValueLaws.{alu_value_of-lt, fitted-lt}
-use Rattle.item_acts.specs.declared.acts.Action.TheVariants.{Load, Store}
-use Rattle.item_acts.specs.declared.acts.Place.{Place}
+use Rattle.item_acts.specs.declared.acts.Action.TheVariants.{Load}
 use Rattle.item_acts.specs.Launches.{put_at}
-use Rattle.item_acts.specs.Machine.{Step, Go, Ask, Stop}
-use Rattle.item_settings.specs.Settings.{elem_size, low_bytes}
+use Rattle.item_acts.specs.Machine.{Step, Ask}
+use Rattle.item_settings.specs.Settings.{elem_size}
 use Rattle.kir.specs.Machine.{value}
 use Rattle.kir.specs.Numbered.{IsBelow}
-use Rattle.kir.specs.Trees.{Operand, VariableOf, NumberOf}
-use Rattle.vx_layout.specs.Addresses.{Array, Where, block_start, block_words, frames_start}
+use Rattle.kir.specs.Trees.{Operand}
+use Rattle.vx_layout.specs.Addresses.{block_start, frames_start}
 use Rattle.vx_isa.specs.Effects.{address_at}
-use Rattle.vx_isa.specs.Warps.{Registers, loaded, value_in, with_register}
-use Rattle.vx_isa.specs.WarpSteps.{Reads, Writes, access_of, csr_value}
+use Rattle.vx_isa.specs.Warps.{loaded, value_in, with_register}
+use Rattle.vx_isa.specs.WarpSteps.{Reads, access_of}
 use Rattle.vx_isa.specs.declared.instr.Instr.{Instr}
 use Rattle.vx_isa.specs.declared.instr.Instr.TheVariants as instr
 use Rattle.vx_isa.specs.declared.instr.LaneEffect.{LaneEffect}
@@ -33,17 +31,17 @@ use Rattle.vcode.specs.Machine.{Lane, lane, learned}
 use Rattle.mask_laws.specs.Clean.{IsWritten}
 use Rattle.warp_code.specs.Warps as code
 use Rattle.warp_code.specs.Warps.{VLane, around_of, told}
-use Rattle.reg_alloc.specs.Plain.{Held, Plain, GetBlock, PutSlot, Calculate, ShiftLeft, do_all, does, held, instr_of, left, made, right, set}
-use Rattle.reg_alloc.specs.Blocks.{compute_word, csr_number, cut_word, fresh_before, load_word, operand_before, register_of, right_before, spare_bits, store_word}
-use Rattle.reg_alloc.proofs.Bringing.{brought, has_value, operand_brings, operand_value, others_kept}
+use Rattle.reg_alloc.specs.Plain.{Held, GetBlock, PutSlot, Calculate, ShiftLeft, do_all, does, instr_of, left, made, right, set}
+use Rattle.reg_alloc.specs.Blocks.{compute_word, csr_number, cut_word, fresh_before, load_word, operand_before, register_of, right_before, spare_bits}
+use Rattle.reg_alloc.proofs.Bringing.{brought, has_value, operand_brings}
 use Rattle.reg_alloc.proofs.Computing.{right_brings, second_value}
 use Rattle.reg_alloc.proofs.ComputingAlong.{both_brought, first_value, last_value}
-use Rattle.image_warps.specs.Lanes.{Ground, Laid, Known, Same, AreAnswered, AsksAlike, AsksNothing, frame_behind, frame_start, known_behind, stored}
+use Rattle.image_warps.specs.Lanes.{Ground, Laid, Known, Same, AreAnswered, AsksAlike, frame_start, known_behind}
 use Rattle.image_warps.specs.Warps.{LaneStands, Position, Along, Storing}
-use Rattle.image_warps.specs.Premises.{IsThere, Reaches}
+use Rattle.image_warps.specs.Premises.{IsThere}
 use Rattle.image_warps.proofs.Quiet.{Goes, Quiet, block_load, csr_quiet, effect_at, field_fine, plain_quiet, slot_written, write_quiet}
 use Rattle.image_warps.proofs.Computed.{compute_effect, cut_effect, cut_is, cut_value}
-use Rattle.image_warps.proofs.Values.{Kept, both_kept, kept_both, left_same, left_value, put_stands, same_kept, set_kept, stored_stands, value_is, value_word}
+use Rattle.image_warps.proofs.Values.{both_kept, kept_both, left_same, left_value, put_stands, same_kept, set_kept, stored_stands, value_is, value_word}
 
 -- The operation is made by an effect of a lane: the lane asks for what it asks for in its step alone, and stands for the lane behind it.
 pub record Made (g : Ground) (mask l pc answer choice target : ℕ) (at : Position) (k : Known) (rs : ℕ → ℕ) (asked : Step Lane) (e : LaneEffect) (h : Held) : Type 0 where

@@ -1,21 +1,18 @@
 -- Steps by which an operation is made that each active lane makes by itself: the warp of the code makes the same step.
-use Rattle.std.proofs.Common.{◌≡◌, ℕ, zero, suc, ◌+◌, ◌*◌, ◌-◌, ◌%◌, ◌^◌, ◌<◌, ◌≤◌, Bool, true, false, not, nat_eq, nat_lt, if◌then◌else◌, List, [], ◌∷◌, ◌++◌, drop, length, map, ap, sym, subst, ◌∙◌, arith, refl, ltb-false}
-use Rattle.std.specs.Prelude.{◌&&◌, ◌==◌}
-use Rattle.vx_isa.specs.Effects.{address_at}
-use Rattle.vx_isa.specs.Warps.{Registers, has_lane, leader, least_below}
+use Rattle.std.proofs.Common.{◌≡◌, ℕ, zero, suc, ◌+◌, ◌<◌, Bool, true, false, nat_lt, List, [], ◌∷◌, drop, map, ap, sym, subst, ◌∙◌, arith, refl, ltb-false}
+use Rattle.vx_isa.specs.Warps.{leader, least_below}
 use Rattle.vx_isa.specs.WarpSteps.{access_of}
-use Rattle.vx_isa.specs.declared.instr.Instr.{Instr}
 use Rattle.vx_isa.specs.declared.warps.MachineTrap.{MachineTrap}
 use Rattle.vx_isa.specs.declared.warps.MachineTrap.TheVariants as trap
 use Rattle.vx_isa.specs.declared.warps.Step.TheVariants as step
 use Rattle.vcode.specs.Code.{VOp}
-use Rattle.vcode.specs.Words.{op_words, words}
+use Rattle.vcode.specs.Words.{op_words}
 use Rattle.warp_code.specs.Warps as code
-use Rattle.warp_code.specs.Warps.{VLane, VWarp, disagrees, lane_behind, lanes_by, moved, stepped, warp_from, warp_op, warp_step}
-use Rattle.reg_alloc.specs.Plain.{Held, Plain, held}
+use Rattle.warp_code.specs.Warps.{VLane, disagrees, lane_behind, lanes_by, moved, stepped, warp_from, warp_op, warp_step}
+use Rattle.reg_alloc.specs.Plain.{Held, held}
 use Rattle.reg_alloc.specs.Blocks.{address_of_word}
 use Rattle.reg_alloc.specs.Layout.{word_of_place}
-use Rattle.image_warps.specs.Lanes.{Ground, Known, Same, AsksAlike, known_behind, of_lane}
+use Rattle.image_warps.specs.Lanes.{Known, Same, AsksAlike, known_behind}
 use Rattle.image_warps.specs.Warps.{LaneStands, Position, Stands, WordsLeft, entry_at, image_warp, outcome_at, word_at}
 use Rattle.image_warps.specs.Laws.{FramesAnswer, IsOver, all_known, frames_behind}
 use Rattle.image_warps.proofs.Sets.{before_least, leader_leads}

@@ -1,5 +1,5 @@
 -- What a word that only computes is to a lane of a warp: it asks for nothing, has no fault, and leads on.
-use Rattle.std.proofs.Common.{◌≡◌, ℕ, suc, ◌+◌, ◌*◌, ◌%◌, ◌^◌, ◌<◌, ◌≤◌, Bool, true, false, nat_eq, if◌then◌else◌, List, [], ◌∷◌, Option, None, Some, ap, sym, subst, ◌∙◌, arith, refl}
+use Rattle.std.proofs.Common.{◌≡◌, ℕ, ◌+◌, ◌*◌, ◌%◌, ◌^◌, ◌<◌, true, false, [], ◌∷◌, None, ap, sym, subst, arith, refl}
 use Rattle.vx_base.specs.Bytes.{bytes_of}
 use Rattle.vx_base.specs.Values.{alu_value_of}
 use Rattle.vx_base.specs.declared.types.Alu.{Alu}
@@ -7,12 +7,12 @@ use Rattle.vx_base.specs.declared.types.Alu.TheVariants as alu
 use Rattle.vx_base.specs.declared.types.Size.{Size}
 use Rattle.vx_base.specs.declared.types.Size.TheVariants.{Four}
 use Rattle.item_acts.specs.Launches.{put_at}
-use Rattle.vx_layout.specs.Addresses.{Where, Block, Own, block_start, frames_start, frame_of}
+use Rattle.vx_layout.specs.Addresses.{Block, Own, block_start, frames_start}
 use Rattle.vx_layout.proofs.Lanes.{frame_ends}
 use Rattle.vx_isa.specs.Effects.{address_at, effect_of}
 use Rattle.vx_isa.specs.Operands.{rs1_of, rs2_of}
-use Rattle.vx_isa.specs.Warps.{Registers, WarpState, loaded, value_in, with_register}
-use Rattle.vx_isa.specs.WarpSteps.{Access, Reads, Writes, Fields, Stepped, access_of, choice_of, csr_value, fault_of, field_fault, instr_step, lanes_step, leads_to, registers_after}
+use Rattle.vx_isa.specs.Warps.{Registers, WarpState, value_in, with_register}
+use Rattle.vx_isa.specs.WarpSteps.{Reads, Fields, access_of, choice_of, csr_value, fault_of, field_fault, instr_step, lanes_step, leads_to, registers_after}
 use Rattle.vx_isa.specs.declared.instr.Instr.{Instr}
 use Rattle.vx_isa.specs.declared.instr.LaneEffect.{LaneEffect}
 use Rattle.vx_isa.specs.declared.instr.LaneEffect.TheVariants as effect

@@ -1,13 +1,12 @@
 -- The words in front of an operation reach what they read.
-use Rattle.std.proofs.Common.{◌≡◌, ℕ, zero, suc, ◌+◌, ◌*◌, ◌^◌, ◌<◌, Bool, true, false, List, [], ◌∷◌, ap, subst, ◌∙◌, arith, refl}
+use Rattle.std.proofs.Common.{◌≡◌, ℕ, true, List, [], ◌∙◌, arith, refl}
 use Rattle.vx_base.specs.declared.types.Alu.TheVariants as alu
 use Rattle.kir.specs.Numbered.{IsBelow}
 use Rattle.kir.specs.Trees.{Operand}
-use Rattle.vx_layout.specs.Addresses.{block_start}
 use Rattle.vcode.specs.Code.{VOp, Fresh, Copy, Compute, Cut, Word, WordAt, Learn, Fetch, Write, IfZero, IfNot, Goto, Split, Join, Pred, Tmc, Wspawn, Bar, Trap, Enter, Leaves, Again}
 use Rattle.simt_lowering.specs.Bounds.{OpWithin}
 use Rattle.warp_code.specs.Warps.{around_of}
-use Rattle.reg_alloc.specs.Plain.{Held, Plain, left, right}
+use Rattle.reg_alloc.specs.Plain.{Held, Plain, left}
 use Rattle.reg_alloc.specs.Blocks.{block, operand_before, right_before}
 use Rattle.reg_alloc.proofs.Bringing.{brought, operand_reaches, others_kept}
 use Rattle.reg_alloc.proofs.Computing.{right_reaches}

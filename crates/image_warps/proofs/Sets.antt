@@ -1,7 +1,6 @@
 -- Sets of lanes by tests that agree, and the least number for which a test holds.
-use Rattle.std.proofs.Common.{◌≡◌, ℕ, zero, suc, ◌+◌, ◌^◌, ◌<◌, ◌≤◌, Bool, true, false, if◌then◌else◌, ap, sym, ◌∙◌, arith, refl}
-use Rattle.std.proofs.lemmas.Bool.{true≢false}
-use Rattle.vx_isa.specs.Warps.{has_lane, lanes_below, lanes_where, least_below, leader}
+use Rattle.std.proofs.Common.{◌≡◌, ℕ, zero, suc, ◌+◌, ◌^◌, ◌<◌, Bool, true, false, if◌then◌else◌, ap, sym, ◌∙◌, arith, refl}
+use Rattle.vx_isa.specs.Warps.{has_lane, lanes_below, least_below, leader}
 
 pub below_same : (n : ℕ) (f f' : ℕ → Bool) → ((j : ℕ) → j < n → f j ≡ f' j) → lanes_below n f ≡ lanes_below n f'
 unfolding lanes_below

@@ -1,12 +1,12 @@
 -- One step of the warp at a word that each active lane does by itself.
-use Rattle.std.proofs.Common.{◌≡◌, ℕ, zero, suc, ◌+◌, ◌*◌, ◌%◌, ◌^◌, ◌<◌, ◌≤◌, Bool, true, false, List, [], ◌∷◌, drop, length, map, Option, None, Some, Result, Ok, Err, ap, sym, subst, ◌∙◌, arith, refl, inl, inr}
-use Rattle.std.proofs.lemmas.Bool.{cases_lt, true≢false}
+use Rattle.std.proofs.Common.{◌≡◌, ℕ, zero, suc, ◌^◌, ◌<◌, ◌≤◌, Bool, true, false, List, [], ◌∷◌, drop, length, map, None, Ok, ap, sym, subst, ◌∙◌, arith, refl, inl, inr}
+use Rattle.std.proofs.lemmas.Bool.{cases_lt}
 use Rattle.vx_base.specs.declared.types.Size.{Size}
 use Rattle.vx_base.specs.declared.types.Size.TheVariants.{One, Two, Four}
 use Rattle.vx_layout.specs.Addresses.{Where, Block, Own, Array, Nowhere}
 use Rattle.vx_isa.specs.Words.{word_of}
 use Rattle.vx_isa.specs.Warps.{Registers, WarpState, has_lane, leader}
-use Rattle.vx_isa.specs.WarpSteps.{Stepped, access_of, accesses_below, acted_below, choice_of, effect_in, fault_of, fetched, fetched_step, instr_step, lanes_step, leads_to, registers_after}
+use Rattle.vx_isa.specs.WarpSteps.{Stepped, access_of, accesses_below, acted_below, choice_of, effect_in, fault_of, fetched, fetched_step, leads_to, registers_after}
 use Rattle.vx_isa.specs.declared.instr.Instr.{Instr}
 use Rattle.vx_isa.specs.declared.instr.LaneEffect.{LaneEffect}
 use Rattle.vx_isa.specs.declared.instr.LaneEffect.TheVariants as effect

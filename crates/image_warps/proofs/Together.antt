@@ -1,31 +1,29 @@
 -- What a warp does with all its lanes together, operation by operation: it parts and meets, keeps and leaves lanes, starts warps, and waits.
-use Rattle.std.proofs.Common.{◌≡◌, ℕ, zero, suc, ◌+◌, ◌*◌, ◌-◌, ◌%◌, ◌^◌, ◌<◌, ◌≤◌, Bool, true, false, not, nat_eq, nat_le, if◌then◌else◌, List, [], ◌∷◌, ◌++◌, drop, length, map, ap, sym, subst, ◌∙◌, arith, refl}
+use Rattle.std.proofs.Common.{◌≡◌, ℕ, suc, ◌+◌, ◌%◌, ◌<◌, Bool, true, false, not, nat_eq, nat_le, if◌then◌else◌, List, [], ◌∷◌, drop, map, ap, ◌∙◌, arith, refl}
 use Rattle.std.specs.Prelude.{◌&&◌, ◌==◌}
 use Rattle.item_acts.specs.declared.acts.Action.TheVariants.{End}
 use Rattle.item_acts.specs.Machine as lanes
 use Rattle.kir.specs.Machine.{value}
 use Rattle.kir.specs.Trees.{Operand, VariableOf}
 use Rattle.vx_isa.specs.Effects.{address_at}
-use Rattle.vx_isa.specs.Warps.{Registers, WarpState, cut, has_lane, leader, lanes_where, value_in}
+use Rattle.vx_isa.specs.Warps.{cut, has_lane, leader, value_in}
 use Rattle.vx_isa.specs.WarpSteps as isa
 use Rattle.vx_isa.specs.WarpSteps.{Stepped, fetched_step, go_on, instr_step, pred_mask}
 use Rattle.vx_isa.specs.declared.instr.Instr.{Instr}
 use Rattle.vx_isa.specs.declared.instr.Instr.TheVariants as instr
 use Rattle.vx_isa.specs.declared.warps.Held.{Held as Entry}
 use Rattle.vx_isa.specs.declared.warps.Held.TheVariants.{Restore, Else}
-use Rattle.vx_isa.specs.declared.warps.MachineTrap.{MachineTrap}
 use Rattle.vx_isa.specs.declared.warps.MachineTrap.TheVariants as trap
 use Rattle.vx_isa.specs.declared.warps.Step.{Step}
 use Rattle.vx_isa.specs.declared.warps.Step.TheVariants as step
 use Rattle.vcode.specs.Code.{VOp, Split, Join, Pred, Tmc, Wspawn, Bar}
 use Rattle.vcode.specs.Machine.{lane}
 use Rattle.warp_code.specs.Warps as code
-use Rattle.warp_code.specs.Warps.{VLane, VWarp, begun, ends_or_goes, stepped, warp_op, warp_step}
-use Rattle.reg_alloc.specs.Plain.{Held, held}
+use Rattle.warp_code.specs.Warps.{VLane, begun, ends_or_goes, stepped, warp_step}
 use Rattle.reg_alloc.specs.Blocks.{address_of_word}
 use Rattle.reg_alloc.specs.Layout.{instrs_of, word_of_place}
-use Rattle.image_warps.specs.Lanes.{Ground, Known, Same, AsksAlike, known_behind}
-use Rattle.image_warps.specs.Warps.{address_of_place, entry_at, outcome_at}
+use Rattle.image_warps.specs.Lanes.{Known, AsksAlike, known_behind}
+use Rattle.image_warps.specs.Warps.{address_of_place, entry_at}
 use Rattle.image_warps.specs.Laws.{IsOver}
 use Rattle.image_warps.proofs.Sets.{below_same, leader_leads}
 use Rattle.image_warps.proofs.Stepping.{Scene, after, fetched_here, image, is_active}

@@ -1,20 +1,20 @@
 -- A lane whose registers and frame stand for registers of the code still does behind words that bring operands, and has their values then.
-use Rattle.std.proofs.Common.{◌≡◌, ℕ, zero, suc, ◌+◌, ◌*◌, ◌%◌, ◌^◌, ◌<◌, Bool, true, false, nat_eq, nat_lt, if◌then◌else◌, List, [], ◌∷◌, ap, sym, subst, ◌∙◌, arith, refl}
+use Rattle.std.proofs.Common.{◌≡◌, ℕ, ◌^◌, ◌<◌, Bool, true, false, nat_eq, nat_lt, if◌then◌else◌, [], ap, sym, subst, ◌∙◌, refl}
+use Rattle.std.specs.Prelude.{◌&&◌}
 use Rattle.vx_base.specs.declared.types.Alu.{Alu}
 use Rattle.item_acts.specs.Launches.{put_at}
 use Rattle.kir.specs.Machine.{value}
 use Rattle.kir.specs.Numbered.{IsBelow}
 use Rattle.kir.specs.Trees.{Operand, VariableOf, NumberOf}
-use Rattle.vx_isa.specs.Warps.{Registers, value_in, with_register}
-use Rattle.vcode.specs.Code.{VOp}
+use Rattle.vx_isa.specs.Warps.{value_in, with_register}
 use Rattle.mask_laws.specs.Clean.{IsWritten}
 use Rattle.warp_code.specs.Warps.{around_of}
-use Rattle.reg_alloc.specs.Plain.{Held, Plain, PutSlot, do_all, does, held, left, made, right, set}
-use Rattle.reg_alloc.specs.Blocks.{operand_before, register_of, right_before}
-use Rattle.reg_alloc.proofs.Bringing.{brought, frame_kept, has_value, operand_brings, operand_value, others_kept}
-use Rattle.reg_alloc.proofs.Computing.{right_brings, right_brought, right_frame, right_others, right_value, second_value}
-use Rattle.reg_alloc.proofs.ComputingAlong.{both_brought, both_frame, first_value, last_value}
-use Rattle.image_warps.specs.Lanes.{Ground, Known, Same, frame_start}
+use Rattle.reg_alloc.specs.Plain.{Held, PutSlot, does, left, made, set}
+use Rattle.reg_alloc.specs.Blocks.{register_of}
+use Rattle.reg_alloc.proofs.Bringing.{brought, frame_kept, has_value, operand_value, others_kept}
+use Rattle.reg_alloc.proofs.Computing.{right_others}
+use Rattle.reg_alloc.proofs.ComputingAlong.{both_brought, both_frame}
+use Rattle.image_warps.specs.Lanes.{Ground, Known, Same}
 use Rattle.image_warps.specs.Warps.{LaneStands, Along, Storing}
 
 -- the lane is as it was, but for registers of the machine that are no base

@@ -1,33 +1,18 @@
 -- Steps that a warp makes with all its lanes together: the masks and the stack are those of the warp of the code.
-use Rattle.std.proofs.Common.{◌≡◌, ℕ, zero, suc, ◌+◌, ◌*◌, ◌-◌, ◌%◌, ◌^◌, ◌<◌, ◌≤◌, Bool, true, false, not, nat_eq, nat_le, if◌then◌else◌, List, [], ◌∷◌, ◌++◌, drop, length, map, Result, Ok, Err, ap, sym, subst, ◌∙◌, arith, refl}
-use Rattle.std.specs.Prelude.{◌&&◌, ◌==◌}
-use Rattle.kir.specs.Machine.{value}
-use Rattle.kir.specs.Trees.{Operand, VariableOf}
-use Rattle.vx_isa.specs.Effects.{address_at}
-use Rattle.vx_isa.specs.Warps.{Registers, WarpState, cut, has_lane, leader, lanes_where, value_in}
-use Rattle.vx_isa.specs.WarpSteps as isa
-use Rattle.vx_isa.specs.WarpSteps.{Stepped, fetched_step, instr_step, pred_mask}
-use Rattle.vx_isa.specs.declared.instr.Instr.{Instr}
-use Rattle.vx_isa.specs.declared.instr.Instr.TheVariants as instr
+use Rattle.std.proofs.Common.{◌≡◌, ℕ, suc, ◌+◌, ◌<◌, Bool, true, false, if◌then◌else◌, List, [], ◌∷◌, length, map, ap, sym, subst, refl}
+use Rattle.vx_isa.specs.WarpSteps.{Stepped}
 use Rattle.vx_isa.specs.declared.warps.Held.{Held as Entry}
-use Rattle.vx_isa.specs.declared.warps.Held.TheVariants.{Restore, Else}
-use Rattle.vx_isa.specs.declared.warps.MachineTrap.{MachineTrap}
-use Rattle.vx_isa.specs.declared.warps.MachineTrap.TheVariants as trap
 use Rattle.vx_isa.specs.declared.warps.Step.{Step}
-use Rattle.vx_isa.specs.declared.warps.Step.TheVariants as step
 use Rattle.vcode.specs.Code.{VOp}
-use Rattle.vcode.specs.Words.{op_words}
 use Rattle.warp_code.specs.Warps as code
-use Rattle.warp_code.specs.Warps.{VLane, VWarp, stepped, warp_op, warp_step}
-use Rattle.reg_alloc.specs.Plain.{Held, held}
+use Rattle.warp_code.specs.Warps.{VLane, stepped, warp_step}
+use Rattle.reg_alloc.specs.Plain.{held}
 use Rattle.reg_alloc.specs.Blocks.{address_of_word}
-use Rattle.reg_alloc.specs.Layout.{instrs_of, word_of_place}
-use Rattle.image_warps.specs.Lanes.{Ground, Known, Same, AsksAlike, frame_behind, known_behind, of_lane}
-use Rattle.image_warps.specs.Warps.{Along, Stands, address_of_place, block_at, entry_at, image_warp, outcome_at, word_at}
-use Rattle.image_warps.specs.Laws.{IsOver, all_known, frames_behind}
-use Rattle.image_warps.proofs.Sets.{below_same, leader_leads}
-use Rattle.image_warps.proofs.Stepping.{Scene, after, fetched_here, image, is_active}
-use Rattle.image_warps.proofs.Overs.{Ordered, lanes_behind, step_of}
+use Rattle.reg_alloc.specs.Layout.{word_of_place}
+use Rattle.image_warps.specs.Lanes.{Known, Same, AsksAlike, known_behind}
+use Rattle.image_warps.specs.Warps.{Along, Stands, block_at, entry_at, image_warp, outcome_at, word_at}
+use Rattle.image_warps.specs.Laws.{IsOver, all_known}
+use Rattle.image_warps.proofs.Stepping.{Scene, after, is_active}
 
 map_length : (ops : List VOp) (st : List Entry) → length (map (entry_at ops) st) ≡ length st
 map_length ops [] = refl

@@ -1,13 +1,13 @@
 -- What stands around the lanes of a warp at machine words, how a lane's registers and frame stand for the registers of the code, and what the
 -- lane's accesses make of its frame.
-use Rattle.std.specs.Prelude.{◌≡◌, ℕ, ◌+◌, ◌*◌, ◌%◌, ◌^◌, ◌<◌, ◌≤◌, Bool, true, false, nat_eq, if◌then◌else◌, List, [], ◌∷◌}
+use Rattle.std.specs.Prelude.{◌≡◌, ℕ, ◌+◌, ◌*◌, ◌%◌, ◌^◌, ◌<◌, ◌≤◌, Bool, true, nat_eq, if◌then◌else◌, List, [], ◌∷◌}
 use Rattle.vx_base.specs.declared.types.Size.{Size}
 use Rattle.vx_base.specs.declared.types.Size.TheVariants.{Four}
 use Rattle.item_acts.specs.declared.acts.Action.TheVariants.{Load, Store}
 use Rattle.item_acts.specs.Launches.{put_at}
-use Rattle.item_acts.specs.Machine.{Step, Go, Ask, Stop}
+use Rattle.item_acts.specs.Machine.{Step, Ask}
 use Rattle.vx_base.specs.Bytes.{bytes_of}
-use Rattle.vx_layout.specs.Addresses.{Where, Block, Own, Array, Nowhere, block_start, block_words, frame_of}
+use Rattle.vx_layout.specs.Addresses.{Where, Block, Own, Array, block_start, block_words, frame_of}
 use Rattle.vx_isa.specs.WarpSteps.{Access, Reads, Writes, Fields, LaneAccess}
 use Rattle.vcode.specs.Code.{VOp, Fresh}
 use Rattle.vcode.specs.Machine.{Lane}

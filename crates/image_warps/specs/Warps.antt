@@ -1,5 +1,5 @@
 -- Where a warp stands in the words of its operations, and the warp at the words, written as a function of the warp of the code.
-use Rattle.std.specs.Prelude.{◌≡◌, ℕ, suc, ◌+◌, ◌*◌, ◌<◌, ◌≤◌, Bool, true, false, List, [], ◌∷◌, ◌++◌, drop, length, map}
+use Rattle.std.specs.Prelude.{◌≡◌, ℕ, ◌+◌, ◌<◌, true, false, List, [], ◌∷◌, ◌++◌, drop, length, map, ◌-◌}
 use Rattle.vx_isa.specs.Warps.{Registers, WarpState, has_lane}
 use Rattle.vx_isa.specs.WarpSteps.{Stepped, warp_step}
 use Rattle.vx_isa.specs.declared.instr.Instr.{Instr}
@@ -9,7 +9,7 @@ use Rattle.vx_isa.specs.declared.warps.Step.{Step}
 use Rattle.vx_isa.specs.declared.warps.Step.TheVariants as step
 use Rattle.vcode.specs.Code.{VOp}
 use Rattle.vcode.specs.Words.{op_words}
-use Rattle.warp_code.specs.Warps.{Crew, VWarp, around_of}
+use Rattle.warp_code.specs.Warps.{VWarp, around_of}
 use Rattle.reg_alloc.specs.Plain.{Held, Plain, PutSlot, do_all, does, held, instr_of, made}
 use Rattle.reg_alloc.specs.Blocks.{address_of_word, block, jump}
 use Rattle.reg_alloc.specs.Layout.{instrs_of, word_of_place, words_of}
