@@ -59,14 +59,14 @@ fn can_run(job: &GroupJob) -> bool
     }
 }
 
-/// Runs a group over the words of the bus, and gives the words after it. None if the core cannot run it.
+/// Runs a group over the words of the bus, and leaves the words as they are after it. None if the core cannot run it.
 fn run_group(
     alloc: Global,
     core: &mut Core,
     image: &Image,
     job: &GroupJob,
-    words: [u32; BUS],
-) -> Result<Option<(GroupEnd, [u32; BUS])>, AllocError> {
+    words: &mut [u32; BUS],
+) -> Result<Option<GroupEnd>, AllocError> {
     if !can_run(job) {
         return Ok(None);
     }
@@ -75,11 +75,10 @@ fn run_group(
     let mut pick = RoundRobin::new();
     let mut evict = EvictOldest::new();
     let end = core.run_group(image, job, &mut bus, &mut pick, &mut evict);
-    let mut left = words;
-    for (place, word) in left.iter_mut().zip(bus.into_words().as_slice()) {
+    for (place, word) in words.iter_mut().zip(bus.into_words().as_slice()) {
         *place = *word;
     }
-    Ok(Some((end, left)))
+    Ok(Some(end))
 }
 
 /// The words of the bus before a launch.
@@ -137,10 +136,10 @@ impl<'a> CoreLaunch<'a> {
         core.begin_launch();
         let mut words = bus_words(given);
         for group in 0..group_count(self.range) {
-            let ran = run_group(alloc, &mut core, self.image, &self.job(group), words)?;
-            match ran {
-                Some((GroupEnd::Finished, left)) => words = left,
-                Some((end, _left)) => return Ok(end_text(alloc, end)?),
+            let job = self.job(group);
+            match run_group(alloc, &mut core, self.image, &job, &mut words)? {
+                Some(GroupEnd::Finished) => {}
+                Some(end) => return Ok(end_text(alloc, end)?),
                 None => return Ok(String::from_str(alloc, "no such group")?),
             }
         }
