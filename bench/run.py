@@ -85,6 +85,23 @@ def refused(folder):
     return assignments(folder, LIMIT)
 
 
+def kernel_of(folder, stores):
+    """A kernel of so many stores, of four nodes each."""
+    with open(os.path.join(folder, "k.cl"), "w") as file:
+        file.write("__kernel void k(__global int *a) { %s}\n" % ("a[0] = 1; " * stores))
+    return ["build", "k.cl", "k"]
+
+
+def build(folder):
+    """The largest kernel that has an image: 40 words for each of its nodes and 256 more are at most 65,536. It is to take less than 0.2 seconds."""
+    return kernel_of(folder, 1_632 // 4 - 1)
+
+
+def build_tenth(folder):
+    """A tenth of it."""
+    return kernel_of(folder, (1_632 // 4 - 1) // 10)
+
+
 def assembly(folder):
     """As many lines as an image has words."""
     lines = ["addi x%d, x%d, %d" % (n % 32, n * 7 % 32, n % 2048) for n in range(65536)]
@@ -301,7 +318,7 @@ def main():
         sys.exit("bench: the program is not built: run ./vx once")
     print("%-12s %8s %10s %12s" % ("input", "status", "seconds", "peak MiB"))
     wrong = 0
-    for make, wanted in ((affine, 0), (largest, 0), (refused, 2), (assembly, 0), (disassembly, 0)):
+    for make, wanted in ((affine, 0), (largest, 0), (refused, 2), (build, 0), (build_tenth, 0), (assembly, 0), (disassembly, 0)):
         status, seconds, peak = measure(make)
         print("%-12s %8d %10.3f %12.1f" % (make.__name__, status, seconds, peak))
         wrong += status != wanted
