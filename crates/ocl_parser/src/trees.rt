@@ -502,6 +502,7 @@ impl Statements {
     pub fn push(&mut self, statement: Statement) -> Result<(), Memory>
         ensures { OnOk result (self.new ≡ and_stmt self.old statement) }
     {
+        room_for_first(&mut self.items)?;
         self.items.push(statement.stmt)?;
         Ok(())
     }
@@ -512,4 +513,14 @@ impl Statements {
     {
         self.items
     }
+}
+
+/// Gives an empty list room for one statement. A push would give it room for four, and most blocks in blocks have one.
+fn room_for_first(items: &mut StmtList) -> Result<(), Memory>
+    ensures { items.new.items ≡ items.old.items }
+{
+    if items.is_empty() {
+        items.reserve_exact(1)?;
+    }
+    Ok(())
 }
