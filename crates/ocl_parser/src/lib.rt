@@ -24,6 +24,7 @@ mod ends;
 mod expr_steps;
 mod heads;
 mod items;
+mod kept;
 pub mod laws;
 mod limits;
 mod moves;

@@ -16,7 +16,8 @@ pub fn is_within(focus: &UnitFocus) -> bool
     ensures { MatchBool result (HasRoom focus.now) (HasRoom focus.now → ⊥) }
 {
     match focus {
-        UnitFocus::Inside(_, _, focus, frames) => {
+        UnitFocus::Inside(_, _, kept, frames) => {
+            let focus = kept.get();
             if has_levels(focus, frames) {
                 is_low(focus)
             } else {

@@ -1,5 +1,6 @@
 //! How far tokens have been read: what stands to the left, open at its right edge.
 
+use crate::kept::KeptFocus;
 use crate::operators::Infix;
 use crate::scalars::Scalar;
 use crate::stacks::{ExprFrames, StmtFrames};
@@ -210,7 +211,7 @@ pub enum UnitFocus {
     /// All up to the `)`.
     ParamsClosed(Head, ParamList),
     /// A part of the body.
-    Inside(Head, ParamList, StmtFocus, StmtFrames),
+    Inside(Head, ParamList, KeptFocus, StmtFrames),
     /// The whole file.
     AtEnd,
 }

@@ -1,9 +1,11 @@
-ghost use Rattle.std.specs.Prelude.{◌≡◌, [], IfOk};
+ghost use Rattle.std.specs.Prelude.{◌≡◌, ◌∷◌, [], IfOk};
+ghost use Rattle.ocl_ast.specs.Trees.{NoStmts};
 ghost use Rattle.ocl_ast.specs.Shapes.{function_tree};
 ghost use Rattle.ocl_parser.specs.Moves.{unit_next};
 ghost use Rattle.ocl_parser.specs.StmtSteps.{stmt_step};
 ghost use Rattle.ocl_parser.specs.UnitSteps.{unit_step, outside_step, helper_step, helper_word, gives_read, kernel_step, head_step, gives_step, named_head, inside_step, brace_step};
 
+use crate::kept::KeptFocus;
 use crate::moves::{StmtMove, UnitMove};
 use crate::names::ident;
 use crate::params::{
@@ -56,8 +58,8 @@ pub fn unit_step(
         }
         UnitFocus::ParamNamed(head, params) => Ok(named_step(kind, head, params)),
         UnitFocus::ParamsClosed(head, params) => brace_step(alloc, kind, head, params),
-        UnitFocus::Inside(head, params, focus, frames) => {
-            inside_step(alloc, kind, pos, head, params, focus, frames)
+        UnitFocus::Inside(head, params, kept, frames) => {
+            inside_step(alloc, kind, pos, head, params, kept, frames)
         }
         UnitFocus::AtEnd => Ok(UnitMove::Refused),
     }
@@ -174,16 +176,13 @@ fn brace_step(
 {
     match kind {
         TokenKind::Mark(Mark::OpenBrace) => {
-            let mut frames = StmtFrames::new(alloc);
-            match frames.push(StmtFrame::Block(Statements::new(alloc))) {
-                Ok(()) => {
-                    let focus = StmtFocus::ItemStart;
-                    Ok(UnitMove::On(UnitFocus::Inside(head, params, focus, frames)))
+            match body_start(alloc) {
+                Ok((kept, frames)) => {
+                    Ok(UnitMove::On(UnitFocus::Inside(head, params, kept, frames)))
                 }
                 Err(memory) => {
                     drop(head);
                     drop(params);
-                    drop(frames);
                     Err(memory)
                 }
             }
@@ -196,6 +195,17 @@ fn brace_step(
     }
 }
 
+/// The start of a function's body.
+fn body_start(alloc: Global) -> Result<(KeptFocus, StmtFrames), Memory>
+    ensures focus { IfOk result (λ start. start.0 ≡ StmtFocus.ItemStart) }
+    ensures frames { IfOk result (λ start. start.1 ≡ StmtFrame.Block NoStmts ∷ []) }
+{
+    let kept = KeptFocus::new(alloc, StmtFocus::ItemStart)?;
+    let mut frames = StmtFrames::new(alloc);
+    frames.push(StmtFrame::Block(Statements::new(alloc)))?;
+    Ok((kept, frames))
+}
+
 /// A token of a function's body.
 fn inside_step(
     alloc: Global,
@@ -203,27 +213,34 @@ fn inside_step(
     pos: Pos,
     head: Head,
     params: ParamList,
-    focus: StmtFocus,
+    kept: KeptFocus,
     frames: StmtFrames,
 ) -> Result<UnitMove, Memory>
-    ensures { IfOk result (λ next. unit_next next ≡ inside_step (stmt_step kind.now pos focus frames) head params) }
+    ensures { IfOk result (λ next. unit_next next ≡ inside_step (stmt_step kind.now pos kept frames) head params) }
 {
+    let mut kept = kept;
     let mut frames = frames;
-    match stmt_step(alloc, kind, pos, focus, &mut frames) {
-        Ok(StmtMove::On(focus)) => Ok(UnitMove::On(UnitFocus::Inside(head, params, focus, frames))),
+    match stmt_step(alloc, kind, pos, kept.take(), &mut frames) {
+        Ok(StmtMove::On(focus)) => {
+            kept.put(focus);
+            Ok(UnitMove::On(UnitFocus::Inside(head, params, kept, frames)))
+        }
         Ok(StmtMove::Closed(body)) => {
+            drop(kept);
             drop(frames);
             Ok(UnitMove::Added(function_of(head, params, body)))
         }
         Ok(StmtMove::Refused) => {
             drop(head);
             drop(params);
+            drop(kept);
             drop(frames);
             Ok(UnitMove::Refused)
         }
         Err(memory) => {
             drop(head);
             drop(params);
+            drop(kept);
             drop(frames);
             Err(memory)
         }
