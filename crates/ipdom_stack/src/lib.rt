@@ -8,13 +8,15 @@ ghost use Rattle.std.specs.Prelude.{◌≡◌, ◌<◌, ◌≤◌, ◌↔◌, []
 
 use arrayvec::ArrayVec;
 use std::marker::Model;
+use thiserror::Error;
 pub use vx_isa::Held;
 
 /// How many entries a stack can have.
 pub const DEPTH: usize = 64;
 
 /// All entries of the stack are in use.
-#[derive(Clone, Copy, Debug, PartialEq, Eq)]
+#[derive(Clone, Copy, Debug, PartialEq, Eq, Error)]
+#[error("all 64 entries of the stack are in use")]
 pub struct Full;
 
 /// A stack of at most [`DEPTH`] entries.

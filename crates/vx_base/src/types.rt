@@ -4,9 +4,11 @@ ghost use Rattle.vx_base.specs.Values.{elem_name};
 
 use std::alloc::{AllocError, AllocFailed};
 use std::fmt;
+use thiserror::Error;
 
 /// Memory ran out. What a call leaves then is said at that call.
-#[derive(Clone, Copy, Debug, PartialEq, Eq)]
+#[derive(Clone, Copy, Debug, PartialEq, Eq, Error)]
+#[error("memory ran out")]
 pub struct Memory;
 
 /// A place in a text. Lines and columns count from 1, and a column counts bytes.

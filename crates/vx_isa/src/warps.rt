@@ -1,6 +1,7 @@
 //! What a warp holds and answers. `specs/Warps.antt` says what a warp is, and `specs/WarpSteps.antt` what one instruction
 //! makes of it.
 use std::default::Default;
+use thiserror::Error;
 
 /// An entry of a warp's divergence stack.
 #[derive(Clone, Copy, Debug, PartialEq, Eq)]
@@ -38,22 +39,29 @@ pub struct Ids {
 }
 
 /// Why a warp traps. Of several causes that hold for one lane the first of these counts.
-#[derive(Clone, Copy, Debug, PartialEq, Eq)]
+#[derive(Clone, Copy, Debug, PartialEq, Eq, Error)]
 pub enum MachineTrap {
     /// The word at the pc is no instruction.
+    #[error("the word at the pc is no instruction")]
     Illegal,
     /// The address of a lane is no multiple of the field's size, or a branch or a jump leads to an address that is no
     /// multiple of 4.
+    #[error("an address is no multiple of the size that it needs")]
     Misaligned,
     /// The pc is not the address of a word of the code, or a lane's field is not in the memory.
+    #[error("an address is not in the code or the memory")]
     Bus,
     /// A `join` on an empty stack.
+    #[error("a join on an empty stack")]
     JoinEmpty,
     /// A `split` that needs more entries than are free.
+    #[error("a split that needs more entries than are free")]
     StackFull,
     /// The active lanes disagree on a branch's outcome or on the target of a `jalr`.
+    #[error("the active lanes disagree on a branch or a jump")]
     Split,
     /// An `ebreak`.
+    #[error("an ebreak")]
     Break,
 }
 

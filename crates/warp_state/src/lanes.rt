@@ -7,13 +7,15 @@ ghost use Rattle.warp_state.specs.Lanes.{registers_in};
 use crate::lane::{Lane, Shared, act};
 use crate::masks::has_lane;
 use crate::memory::LaneMemory;
+use thiserror::Error;
 use vx_isa::{Instr, LaneEffect, MachineTrap, effect};
 
 /// The most lanes that a warp can have.
 pub const LANES: u32 = 32;
 
 /// Where the active lanes stop.
-#[derive(Clone, Copy, Debug, PartialEq, Eq)]
+#[derive(Clone, Copy, Debug, PartialEq, Eq, Error)]
+#[error("lane {lane}: {fault}")]
 pub struct Stop {
     /// Why the lane traps.
     pub fault: MachineTrap,
