@@ -1,0 +1,4 @@
+pub mod Lanes
+pub mod Warps
+pub mod Premises
+pub mod Laws
