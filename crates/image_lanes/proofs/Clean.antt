@@ -1,5 +1,5 @@
 -- The lane of an item runs clean from each place at which it may begin.
-use Rattle.std.proofs.Common.{◌≡◌, ℕ, Bool, List, [], ◌∷◌, Option, Some, drop, length, refl, ap, sym, subst, ◌∙◌, tt, inl, inr}
+use Rattle.std.proofs.Common.{◌≡◌, ℕ, Bool, List, [], ◌∷◌, Option, Some, drop, length, refl, ap, sym, subst, ◌∙◌, inl, inr}
 use Rattle.item_acts.specs.declared.acts.Place.{Place}
 use Rattle.item_acts.specs.declared.acts.Place.TheVariants.{Global}
 use Rattle.item_settings.specs.Settings.{Setting as ItemSetting, element_in}
@@ -8,7 +8,7 @@ use Rattle.kir.specs.Trees.{KirCode}
 use Rattle.vx_base.specs.declared.types.Elem.{Elem}
 use Rattle.vcode.specs.Code.{VOp, Fresh, Copy, Compute, Cut, Word, WordAt, Learn, Fetch, Write, IfZero, IfNot, Goto, Split, Join, Pred, Tmc, Wspawn, Bar, Trap, Enter, Leaves, Again}
 use Rattle.vcode.specs.Machine.{Around, Lane}
-use Rattle.vx_layout.specs.Addresses.{Where, Array, place_at}
+use Rattle.vx_layout.specs.Addresses.{Array, frame_of}
 use Rattle.vx_layout.specs.Launching.{Plan, Accepted, map_of}
 use Rattle.vx_layout.proofs.Located.{located}
 use Rattle.simt_lowering.specs.InArrays.{FirstInArray, IsElement, OpInArray}
@@ -22,7 +22,7 @@ use Rattle.image_lanes.specs.Lanes.{setting_at}
 
 -- ---- places at which a warp may begin
 
-abbrev IsFresh : List VOp → ℕ → Type 0
+abbrev pub IsFresh : List VOp → ℕ → Type 0
 IsFresh ops q = (rest : List VOp) × (drop q ops ≡ Fresh ∷ rest)
 
 fresh_at : (marks : ℕ → Bool) (code : KirCode) (q : ℕ) → Begins q → IsFresh (kernel_code marks code) q
@@ -36,14 +36,14 @@ is_fresh marks code ops same q begins = subst (λ os. IsFresh os q) (sym same) (
 -- ---- what accesses name
 
 module _ (p : Plan) (ok : Accepted p) (setting : ItemSetting) (words : List ℕ) (sites : List Site) (group warp lane : ℕ) where
-  abbrev k : Setting
+  abbrev pub k : Setting
   k = setting_at words sites p group warp lane
 
   -- the address of an element names its byte to both lanes
   element_named : (elem : Elem) (a : ℕ) → IsElement p setting group elem a → k.at a ≡ Array (named p group a)
   element_named elem a element =
       let q : Place = element_in group (setting.array element.array) element.index in
-      let there : k.at a ≡ Array q = (located p ok).at_array group _ p.slots a q element.names in
+      let there : k.at a ≡ Array q = (located p ok).at_array group (frame_of warp p.lanes lane p.slots) p.slots a q element.names in
       let same : named p group a ≡ q = ap (place_or (Global (length p.buffers) a)) element.names in
       there ∙ ap Array (sym same)
 

@@ -18,9 +18,9 @@ warp_below : (warp warps lanes number size : ℕ) → warp * lanes + number < si
 warp_below warp warps lanes number size in_group room few =
     let most : warps * lanes ≤ 16 * lanes = mul-le-mul_right lanes few in
     elim (cases_order warp 16) [
-      | inl same ↦ let much : 16 * lanes ≤ warp * lanes = mul-le-mul_right lanes (omega arith) in absurd (omega arith)
+      | inl same ↦ let least : 16 ≤ warp = omega arith in let much : 16 * lanes ≤ warp * lanes = mul-le-mul_right lanes least in absurd (omega arith)
       | inr (inl less) ↦ less
-      | inr (inr more) ↦ let much : 16 * lanes ≤ warp * lanes = mul-le-mul_right lanes (omega arith) in absurd (omega arith)
+      | inr (inr more) ↦ let least : 16 ≤ warp = omega arith in let much : 16 * lanes ≤ warp * lanes = mul-le-mul_right lanes least in absurd (omega arith)
     ]
 
 pub is_setting : (p : Plan) → Accepted p → (item group warp lane : ℕ) → HasLane p item group warp lane → (slots : ℕ) → p.slots ≡ slots → (ops : List VOp)
@@ -31,8 +31,8 @@ is_setting p ok item group warp lane has slots same ops =
       words = refl;
       sites = refl;
       block_small = λ w below. (located p ok).block_small group w has.in_launch;
-      warp_small = omega arith;
-      number_small = omega arith;
+      warp_small = let low : warp < 16 = few in omega arith;
+      number_small = let low : lane < 32 = few_lanes in omega arith;
       stands = record {
         block_word = λ w below. (located p ok).block_word group warp lane w below;
         own_word = λ r below. (located p ok).own_word group warp lane r few few_lanes below;

@@ -26,7 +26,7 @@ use Rattle.image_lanes.proofs.Clean.{first_named, is_fresh}
 
 module _ (program : List FunctionNode) (number : ℕ) (code : Code) (of_code : IsLaneCode program number code) (kernel : FunctionNode) (here : slice_get program number ≡ Some kernel)
     (p : Plan) (ok : Accepted p) (plan : IsLaunchOf kernel p) (item group warp lane : ℕ) (has : HasLane p item group warp lane) where
-  abbrev k : Setting
+  abbrev pub k : Setting
   k = setting_at (words_of code.registers code.ops) (sites_of code.ops) p group warp lane
 
   -- the lane of the code does as the item from each place at which it may begin
@@ -36,8 +36,8 @@ module _ (program : List FunctionNode) (number : ℕ) (code : Code) (of_code : I
   code_asks does q ns (inr (inl e)) = subst (λ x. AsksAs program kernel code.ops p item (around_of p group warp lane) (begin x (λ r. 0) ns)) (sym e) (does.from_spawn (λ r. 0) ns)
   code_asks does q ns (inr (inr e)) = subst (λ x. AsksAs program kernel code.ops p item (around_of p group warp lane) (begin x (λ r. 0) ns)) (sym e) (does.from_item (λ r. 0) ns)
 
-  clean : (q : ℕ) (ns : List ℕ) → Begins q → RunsClean k (named p group) code.ops (begin q (λ r. 0) ns)
-  clean q ns begins = record {
+  runs_clean : (q : ℕ) (ns : List ℕ) → Begins q → RunsClean k (named p group) code.ops (begin q (λ r. 0) ns)
+  runs_clean q ns begins = record {
     written = of_code.written (around_of p group warp lane) q (λ r. 0) ns begins;
     in_block = λ n t us comes. of_code.block (around_of p group warp lane) q (λ r. 0) ns begins n t us comes;
     named = λ n t us comes.
@@ -55,8 +55,8 @@ module _ (program : List FunctionNode) (number : ℕ) (code : Code) (of_code : I
       item_cost (lane_cost code.ops) (item_start program kernel p.bounds) (begin q (λ r. 0) numbers)
       (image_lane (address_of_word (word_of_place code.ops q)) registers frame numbers)
       (code_asks does q numbers begins)
-      (lanes_are_kept code.registers code.ops fits.small of_code.registers fits.words_low k (named p group)
-      (is_setting p ok item group warp lane has code.registers same code.ops) (begin q (λ r. 0) numbers) small (clean q numbers begins) registers frame)
+      (lanes_are_kept code.registers code.ops fits.small of_code.registers fits.fits k (named p group)
+      (is_setting p ok item group warp lane has code.registers same code.ops) (begin q (λ r. 0) numbers) small (runs_clean q numbers begins) registers frame)
 
 -- so it is with the words of the definition
 pub at_words : (program : List FunctionNode) (number : ℕ) (code : Code) → IsLaneCode program number code
@@ -77,4 +77,4 @@ lanes_do_as_source program number code made sites slots of_code fits =
         (subst (λ ss. WordsDoAsSource program number code.ops (words_of code.registers code.ops) ss slots) sites_are
         (subst (λ n. WordsDoAsSource program number code.ops (words_of code.registers code.ops) (sites_of code.ops) n) slots_are
         (at_words program number code of_code
-        (record { words_low = fits.words_low; words = refl; sites = refl; slots = refl; small = subst (λ n. n ≤ 256) (sym slots_are) fits.small }))))
+        (record { fits = fits.fits; words = refl; sites = refl; slots = refl; small = subst (λ n. n ≤ 256) (sym slots_are) fits.small }))))
