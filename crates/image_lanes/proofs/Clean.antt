@@ -1,5 +1,5 @@
 -- The lane of an item runs clean from each place at which it may begin.
-use Rattle.std.proofs.Common.{◌≡◌, ℕ, Bool, List, [], ◌∷◌, Option, Some, drop, length, refl, ap, sym, subst, ◌∙◌, inl, inr}
+use Rattle.std.proofs.Common.{◌≡◌, ℕ, Bool, List, [], ◌∷◌, drop, length, refl, ap, sym, subst, ◌∙◌, inl, inr}
 use Rattle.item_acts.specs.declared.acts.Place.{Place}
 use Rattle.item_acts.specs.declared.acts.Place.TheVariants.{Global}
 use Rattle.item_settings.specs.Settings.{Setting as ItemSetting, element_in}
@@ -7,17 +7,16 @@ use Rattle.kir.specs.Machine.{value}
 use Rattle.kir.specs.Trees.{KirCode}
 use Rattle.vx_base.specs.declared.types.Elem.{Elem}
 use Rattle.vcode.specs.Code.{VOp, Fresh, Copy, Compute, Cut, Word, WordAt, Learn, Fetch, Write, IfZero, IfNot, Goto, Split, Join, Pred, Tmc, Wspawn, Bar, Trap, Enter, Leaves, Again}
-use Rattle.vcode.specs.Machine.{Around, Lane}
 use Rattle.vx_layout.specs.Addresses.{Array, frame_of}
-use Rattle.vx_layout.specs.Launching.{Plan, Accepted, map_of}
+use Rattle.vx_layout.specs.Launching.{Plan, Accepted}
 use Rattle.vx_layout.proofs.Located.{located}
 use Rattle.simt_lowering.specs.InArrays.{FirstInArray, IsElement, OpInArray}
-use Rattle.simt_lowering.specs.Laid.{HasLane, named, place_or}
+use Rattle.simt_lowering.specs.Laid.{named, place_or}
 use Rattle.simt_lowering.specs.Lowered.{kernel_code}
-use Rattle.simt_lowering.specs.Runs.{Begins, begin}
+use Rattle.simt_lowering.specs.Runs.{Begins}
 use Rattle.vx_isa.specs.declared.image.Site.{Site}
 use Rattle.reg_alloc.specs.Alone.{Setting}
-use Rattle.reg_alloc.specs.Keeping.{FirstNamed, OpNamed, RunsClean}
+use Rattle.reg_alloc.specs.Keeping.{FirstNamed, OpNamed}
 use Rattle.image_lanes.specs.Lanes.{setting_at}
 
 -- ---- places at which a warp may begin

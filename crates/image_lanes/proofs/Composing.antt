@@ -1,6 +1,5 @@
 -- Two machines that ask alike, and a third that asks for what words hold of it.
-use Rattle.std.proofs.Common.{◌≡◌, ℕ, List}
-use Rattle.item_acts.specs.declared.acts.Action.{Action}
+use Rattle.std.proofs.Common.{ℕ}
 use Rattle.item_acts.specs.Machine.{Step}
 use Rattle.step_machine.specs.Alike.{AskAlike}
 use Rattle.reg_alloc.specs.Keeping.{AsksBare, bare}

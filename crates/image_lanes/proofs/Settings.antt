@@ -2,7 +2,6 @@
 use Rattle.std.proofs.Common.{◌≡◌, ℕ, ◌+◌, ◌*◌, ◌^◌, ◌<◌, ◌≤◌, List, refl, subst, arith, inl, inr}
 use Rattle.std.proofs.Math.Nat.{mul-le-mul_right}
 use Rattle.std.proofs.lemmas.Bool.{cases_order}
-use Rattle.vx_isa.specs.declared.image.Site.{Site}
 use Rattle.vcode.specs.Code.{VOp}
 use Rattle.vx_layout.specs.Addresses.{frame_of}
 use Rattle.vx_layout.specs.Launching.{Plan, Accepted, group_size}

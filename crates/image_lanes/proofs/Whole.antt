@@ -1,12 +1,11 @@
 -- The law of a kernel's words.
-use Rattle.std.proofs.Common.{◌≡◌, ℕ, ◌≤◌, Bool, List, ◌∷◌, Some, slice_get, drop, ap, sym, subst, refl, inl, inr}
+use Rattle.std.proofs.Common.{◌≡◌, ℕ, ◌≤◌, List, Some, slice_get, drop, ap, sym, subst, refl, inl, inr}
 use Rattle.ocl_program.specs.Nodes.{FunctionNode}
 use Rattle.ocl_sem.specs.Items.{item_start, item_step}
 use Rattle.ocl_sem.specs.Settings.{setting_of}
 use Rattle.task_machine.specs.Tasks.{cost as item_cost}
-use Rattle.vx_isa.specs.Warps.{Registers}
 use Rattle.vx_isa.specs.declared.image.Site.{Site}
-use Rattle.vcode.specs.Code.{Code, VOp}
+use Rattle.vcode.specs.Code.{Code}
 use Rattle.vcode.specs.Machine.{cost as lane_cost, step}
 use Rattle.vx_layout.specs.Launching.{Plan, Accepted}
 use Rattle.simt_lowering.specs.Laid.{HasLane, around_of, named}
@@ -14,11 +13,11 @@ use Rattle.simt_lowering.specs.Runs.{Begins, begin}
 use Rattle.lane_kernels.specs.Source.{AsksAs, DoesAs, IsLaunchOf}
 use Rattle.reg_alloc.specs.Alone.{Setting, image_lane, image_step}
 use Rattle.reg_alloc.specs.Blocks.{address_of_word}
-use Rattle.reg_alloc.specs.Keeping.{AreWords, RunsClean}
+use Rattle.reg_alloc.specs.Keeping.{RunsClean}
 use Rattle.reg_alloc.specs.Layout.{sites_of, word_of_place, words_of}
 use Rattle.reg_alloc.proofs.Basing.{based_from_begin}
 use Rattle.reg_alloc.proofs.KeptLanes.{lanes_are_kept}
-use Rattle.image_lanes.specs.Lanes.{AsksAsItem, AsksTheSame, WordsDoAsSource, setting_at}
+use Rattle.image_lanes.specs.Lanes.{AsksAsItem, WordsDoAsSource, setting_at}
 use Rattle.image_lanes.specs.Laws.{IsLaneCode, IsAllocated, LanesDoAsSourceAtWords}
 use Rattle.image_lanes.proofs.Composing.{same_on}
 use Rattle.image_lanes.proofs.Settings.{is_setting}
