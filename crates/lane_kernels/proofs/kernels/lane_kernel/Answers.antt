@@ -8,10 +8,11 @@ use Rattle.vcode.specs.Shapes.{vops_of}
 use Rattle.vcode.specs.Words.{words}
 use Rattle.structured.specs.Ready.{measures_of}
 use Rattle.simt_lowering.specs.Bounds.{most_words as words_of}
+use Rattle.mask_laws.proofs.HonestRuns.{take_honest}
 use Rattle.mask_laws.proofs.Law.{warps_in_step}
 use Rattle.lane_kernels.specs.Sizes.{most_registers, most_words}
 use Rattle.lane_kernels.proofs.Lanes.{lanes_access, lanes_do}
-use Rattle.lane_kernels.proofs.Limits.{limited, may_lower, registers_few, words_few, words_fit}
+use Rattle.lane_kernels.proofs.Limits.{can_lower, limited, may_lower, registers_few, words_few, words_fit}
 use Rattle.lane_kernels.proofs.kernels.lane_kernel.Goals as goal
 
 pub lower-requires : goal.lower-requires
@@ -38,6 +39,12 @@ returns-clause-passes c = record {
       warps_in_step (marked c.in_ok-marks.marks) (code_of c.in_ok-code.code) k is_first
       (may_lower (measures_of (map function_node c.args.program.now.functions.items) c.args.kernel) (measured own_sites (map function_node c.args.program.now.functions.items) c.args.kernel)
       (code_of c.in_ok-code.code) (marked c.in_ok-marks.marks) c.in_ok-code.ensures.ready.ready c.in_ok-marks.ensures.greatest) has;
+  honest = λ k is_first has.
+      take_honest (marked c.in_ok-marks.marks) (code_of c.in_ok-code.code) k is_first
+      (may_lower (measures_of (map function_node c.args.program.now.functions.items) c.args.kernel) (measured own_sites (map function_node c.args.program.now.functions.items) c.args.kernel)
+      (code_of c.in_ok-code.code) (marked c.in_ok-marks.marks) c.in_ok-code.ensures.ready.ready c.in_ok-marks.ensures.greatest)
+      (can_lower (measures_of (map function_node c.args.program.now.functions.items) c.args.kernel) (measured own_sites (map function_node c.args.program.now.functions.items) c.args.kernel)
+      (code_of c.in_ok-code.code) c.in_ok-code.ensures.ready.ready) has;
 }
 
 pub returns-clause-few_registers : goal.returns-clause-few_registers

@@ -1,0 +1,4 @@
+pub mod Composing
+pub mod Settings
+pub mod Clean
+pub mod Whole
