@@ -102,6 +102,7 @@ fn allocated(alloc: Global, code: &VCode) -> Result<Allocated, Memory>
     requires words { count_of (vops_of code.now.ops.items) ≤ 65536 }
     ensures words { IfOk result (λ made. made.words ≡ words_of made.slots (vops_of code.now.ops.items)) }
     ensures sites { IfOk result (λ made. made.sites ≡ sites_of (vops_of code.now.ops.items)) }
+    ensures slots { IfOk result (λ made. made.slots ≡ code.now.registers) }
     ensures small { IfOk result (λ made. made.slots ≤ 256) }
     ensures counted { IfOk result (λ made. length made.words ≡ count_of (vops_of code.now.ops.items)) }
     ensures decoded { IfOk result (λ made.
