@@ -33,7 +33,7 @@ use Rattle.image_warps.specs.Warps.{address_of_place}
 use Rattle.image_warps.specs.Premises.{HasWord, IsBased, Reaches}
 use Rattle.image_warps.specs.Laws.{Broken, FramesAnswer, IsOver, OneStep, Over}
 use Rattle.image_warps.proofs.Computed.{compute_lanes, cut_lanes, load_lanes, store_lanes}
-use Rattle.image_warps.proofs.Values.{both_kept, left_same, left_value, same_kept, set_kept, value_is}
+use Rattle.image_warps.proofs.Values.{both_kept, frame_word, left_same, left_value, same_kept, set_kept, value_is}
 use Rattle.image_warps.proofs.Made.{compute_made, copy_made, cut_made, fetch_made, fresh_made, learn_made, word_at_made, word_made}
 use Rattle.image_warps.proofs.Leading.{jump_goes, write_made}
 use Rattle.image_warps.proofs.Stepping.{Scene, active_low, after, is_active, word_low}
@@ -297,12 +297,12 @@ module _ (c : Scene) (known : ℕ → Known) (idle : Idle c known) where
     pred_first : FromBegun (λ l from. value_in (do_all (around_of c.g.crew l) pred_words from).registers (register_of left a) ≡ value (c.w.lanes l).registers a)
     pred_first l from low active same =
         ap (λ (h : Held). value_in h.registers (register_of left a)) (both_is a (VariableOf m) r.fits.0 r.fits.1 l from)
-        ∙ first_value alu.Add a (VariableOf m) from same.words ∙ value_is c.g l (known l) (c.w.lanes l).registers a from same (r.clean l active).0 r.fits.0
+        ∙ first_value alu.Add a (VariableOf m) from (frame_word from.frame c.g.slots a same.words r.fits.0) ∙ value_is c.g l (known l) (c.w.lanes l).registers a from same (r.clean l active).0 r.fits.0
 
     pred_second : FromBegun (λ l from. value_in (do_all (around_of c.g.crew l) pred_words from).registers right ≡ value (c.w.lanes l).registers (VariableOf m))
     pred_second l from low active same =
         ap (λ (h : Held). value_in h.registers right) (both_is a (VariableOf m) r.fits.0 r.fits.1 l from)
-        ∙ last_value alu.Add a (VariableOf m) from same.words ∙ value_is c.g l (known l) (c.w.lanes l).registers (VariableOf m) from same (r.clean l active).1 r.fits.1
+        ∙ last_value alu.Add a (VariableOf m) from (same.words m) ∙ value_is c.g l (known l) (c.w.lanes l).registers (VariableOf m) from same (r.clean l active).1 r.fits.1
 
   pred_is : (a : Operand) (m : ℕ) → IsMade (Pred a m)
   pred_is a m r begun answered =

@@ -33,7 +33,7 @@ use Rattle.image_warps.specs.Lanes.{Ground, Known, Same, stored}
 use Rattle.image_warps.specs.Warps.{Along}
 use Rattle.image_warps.specs.Premises.{IsThere}
 use Rattle.image_warps.proofs.Quiet.{Goes, effect_at, field_fine}
-use Rattle.image_warps.proofs.Values.{both_kept, same_kept, value_is, value_word}
+use Rattle.image_warps.proofs.Values.{both_kept, frame_word, same_kept, value_is, value_word}
 use Rattle.image_warps.proofs.Made.{Made}
 
 zero_more : (a : ℕ) → a < 2 ^ 32 → address_at a 0 ≡ a
@@ -120,8 +120,8 @@ module _ (g : Ground) (mask l pc answer : ℕ) (k : Known) (v : VLane) (from : H
   write_made e a b below below' written written' there =
       let h = both_brought alu.Add a b from in
       let ok = same_kept g l k rs from h same (both_kept g l k rs from same alu.Add a b) in
-      let first : value_in h.registers (register_of left a) ≡ value rs a = first_value alu.Add a b from same.words ∙ value_is g l k rs a from same written below in
-      let second : value_in h.registers (register_of right b) ≡ value rs b = last_value alu.Add a b from same.words ∙ value_is g l k rs b from same written' below' in
+      let first : value_in h.registers (register_of left a) ≡ value rs a = first_value alu.Add a b from (frame_word from.frame g.slots a same.words below) ∙ value_is g l k rs a from same written below in
+      let second : value_in h.registers (register_of right b) ≡ value rs b = last_value alu.Add a b from (frame_word from.frame g.slots b same.words below') ∙ value_is g l k rs b from same written' below' in
       subst (λ x. WrittenBy e a b (effect_at (store_word e (register_of left a) (register_of right b)) pc x.registers) x)
       (sym (operand_brings left refl refl refl at g.slots a (right_before alu.Add b []) from below ∙ right_brings at g.slots alu.Add b [] (brought left a from) below'))
       (written_at e (register_of left a) (register_of right b) a b h ok first (value_word g l k rs a from same written below) second there)

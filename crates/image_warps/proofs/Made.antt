@@ -41,7 +41,7 @@ use Rattle.image_warps.specs.Warps.{LaneStands, Position, Along, Storing}
 use Rattle.image_warps.specs.Premises.{IsThere}
 use Rattle.image_warps.proofs.Quiet.{Goes, Quiet, block_load, csr_quiet, effect_at, field_fine, plain_quiet, slot_written, write_quiet}
 use Rattle.image_warps.proofs.Computed.{compute_effect, cut_effect, cut_is, cut_value}
-use Rattle.image_warps.proofs.Values.{both_kept, kept_both, left_same, left_value, put_stands, same_kept, set_kept, stored_stands, value_is, value_word}
+use Rattle.image_warps.proofs.Values.{both_kept, frame_word, kept_both, left_same, left_value, put_stands, same_kept, set_kept, stored_stands, value_is, value_word}
 
 -- The operation is made by an effect of a lane: the lane asks for what it asks for in its step alone, and stands for the lane behind it.
 pub record Made (g : Ground) (mask l pc answer choice target : ℕ) (at : Position) (k : Known) (rs : ℕ → ℕ) (asked : Step Lane) (e : LaneEffect) (h : Held) : Type 0 where
@@ -143,8 +143,8 @@ module _ (g : Ground) (laid : Laid g) (mask l pc answer : ℕ) (low : l < 32) (s
       let h = both_brought op a b from in
       let x = alu_value_of op (value rs a) (value rs b) in
       let ok = same_kept g l k rs from h same (both_kept g l k rs from same op a b) in
-      let first : value_in h.registers (register_of left a) ≡ value rs a = first_value op a b from same.words ∙ value_is g l k rs a from same written below in
-      let second : second_value op b h.registers ≡ value rs b = last_value op a b from same.words ∙ value_is g l k rs b from same written' below' in
+      let first : value_in h.registers (register_of left a) ≡ value rs a = first_value op a b from (frame_word from.frame g.slots a same.words below) ∙ value_is g l k rs a from same written below in
+      let second : second_value op b h.registers ≡ value rs b = last_value op a b from (frame_word from.frame g.slots b same.words below') ∙ value_is g l k rs b from same written' below' in
       let e : effect_at (compute_word op b (register_of left a)) pc h.registers ≡ effect.Write made x =
       compute_effect op b (register_of left a) pc h.registers
       ∙ ap (λ n. effect.Write made (alu_value_of op n (second_value op b h.registers))) first ∙ ap (λ n. effect.Write made (alu_value_of op (value rs a) n)) second in

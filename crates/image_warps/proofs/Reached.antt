@@ -9,7 +9,7 @@ use Rattle.simt_lowering.specs.Bounds.{OpWithin}
 use Rattle.warp_code.specs.Warps.{around_of}
 use Rattle.reg_alloc.specs.Plain.{Held, Plain, left}
 use Rattle.reg_alloc.specs.Blocks.{block, operand_before, right_before}
-use Rattle.reg_alloc.proofs.Bringing.{brought, operand_reaches, others_kept}
+use Rattle.reg_alloc.proofs.Bringing.{based_for, brought, operand_reaches, others_kept}
 use Rattle.reg_alloc.proofs.Computing.{right_reaches}
 use Rattle.reg_alloc.proofs.Goings.{ReachAll}
 use Rattle.image_warps.specs.Lanes.{Ground, Known, Same, frame_start}
@@ -23,7 +23,7 @@ module _ (g : Ground) (l : ℕ) (k : Known) (rs : ℕ → ℕ) (h : Held) (same 
   start = frame_start g l
 
   one : k.based ≡ true → (a : Operand) (ws : List Plain) → IsBelow g.slots a → ReachAll g.slots start at ws (brought left a h) → ReachAll g.slots start at (operand_before left a ws) h
-  one based a ws below reach = operand_reaches left refl refl refl at g.slots start a ws h below (same.frame based) reach
+  one based a ws below reach = operand_reaches left refl refl refl at g.slots start a ws h below (based_for start h a (same.frame based)) reach
 
   still : k.based ≡ true → (a : Operand) → (brought left a h).registers 4 ≡ start
   still based a = others_kept left refl refl refl a h 4 refl ∙ same.frame based

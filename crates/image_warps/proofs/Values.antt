@@ -36,6 +36,11 @@ brought_kept rd a h same some low third fourth = record {
 pub set_kept : (rd v : ℕ) (h : Held) → nat_eq 3 rd ≡ false → nat_eq 4 rd ≡ false → Kept h (set rd v h)
 set_kept rd v h third fourth = record { frame = refl; third = rw third refl; fourth = rw fourth refl }
 
+-- an operand's value is a word if those of a frame are
+pub frame_word : (frame : ℕ → ℕ) (slots : ℕ) (a : Operand) → ((r : ℕ) → frame r < 2 ^ 32) → IsBelow slots a → value frame a < 2 ^ 32
+frame_word frame slots (VariableOf r) words below = words r
+frame_word frame slots (NumberOf n) words below = below
+
 module _ (g : Ground) (l : ℕ) (k : Known) (rs : ℕ → ℕ) where
   pub same_kept : (h h' : Held) → Same g l k rs h → Kept h h' → Same g l k rs h'
   same_kept h h' same kept = record {
@@ -94,7 +99,7 @@ module _ (g : Ground) (l : ℕ) (k : Known) (rs : ℕ → ℕ) where
     left_kept a = brought_kept left a from refl refl refl refl refl
 
     pub left_value : (a : Operand) → IsWritten k.written a → IsBelow g.slots a → value_in (brought left a from).registers (register_of left a) ≡ value rs a
-    left_value a written below = operand_value left refl refl refl a from same.words ∙ value_is a from same written below
+    left_value a written below = operand_value left refl refl refl a from (frame_word from.frame g.slots a same.words below) ∙ value_is a from same written below
 
     pub left_same : (a : Operand) → Same g l k rs (brought left a from)
     left_same a = same_kept from (brought left a from) same (left_kept a)
